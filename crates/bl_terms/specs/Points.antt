@@ -1,0 +1,41 @@
+-- Points and boxes: a point is a list of whole numbers, one for each column.
+use Rattle.std.specs.Prelude.{ℕ, ℤ, ◌≡◌, ◌<◌, ◌≤ℤ◌, List, length, map, refl}
+use Rattle.std.specs.Coded.{Coded, code_by, coded×, coded_list, coded_ℤ}
+use Rattle.bl_whole.specs.Sums.{entry, dot}
+
+-- a box: the least and the greatest number of each column
+pub record Area : Type 0 where
+  pub lo : List ℤ
+  pub hi : List ℤ
+
+abbrev pub area_code : Coded Area
+area_code =
+    code_by (List ℤ × List ℤ) (coded× (coded_list coded_ℤ) (coded_list coded_ℤ)) (λ a. (a.lo, a.hi)) (λ p. record { lo = p.0; hi = p.1 }) (λ _. refl)
+
+-- an inequality: coef · z is at most right
+pub record Linear : Type 0 where
+  pub coef : List ℤ
+  pub right : ℤ
+
+abbrev pub linear_code : Coded Linear
+linear_code =
+    code_by (List ℤ × ℤ) (coded× (coded_list coded_ℤ) coded_ℤ) (λ r. (r.coef, r.right)) (λ p. record { coef = p.0; right = p.1 }) (λ _. refl)
+
+-- both sides of a box have one number for each column, and no column's range is empty
+pub record IsArea (a : Area) : Type 0 where
+  pub sides : length a.hi ≡ length a.lo
+  pub ordered : (k : ℕ) → k < length a.lo → entry a.lo k ≤ℤ entry a.hi k
+
+-- z is a point of the box: one number for each column, each in its column's range
+pub record InArea (a : Area) (z : List ℤ) : Type 0 where
+  pub columns : length z ≡ length a.lo
+  pub least : (k : ℕ) → k < length a.lo → entry a.lo k ≤ℤ entry z k
+  pub most : (k : ℕ) → k < length a.lo → entry z k ≤ℤ entry a.hi k
+
+-- z meets the inequality
+pub record Meets (r : Linear) (z : List ℤ) : Type 0 where
+  pub holds : dot r.coef z ≤ℤ r.right
+
+-- the values of z at the places in ks, in their order
+abbrev pub values_at : List ℤ → List ℕ → List ℤ
+values_at z ks = map (λ k. entry z k) ks

@@ -1,0 +1,2 @@
+//! The definitions of bilevel integer programs, and their laws.
+#![tactic(auto)]

@@ -1,0 +1,15 @@
+-- Sums by place: what a loop over the places below a number adds up.
+use Rattle.std.specs.Prelude.{ℕ, zero, suc, ℤ, pos, ◌+ℤ◌, ◌*ℤ◌, List, length, slice_index_or}
+
+-- the number at a place, 0 past the end
+abbrev pub entry : List ℤ → ℕ → ℤ
+entry xs k = slice_index_or xs k (pos 0)
+
+-- f 0 + f 1 + .. + f (n - 1)
+abbrev pub sum_below : ℕ → (ℕ → ℤ) → ℤ
+sum_below zero f = pos 0
+sum_below (suc n) f = sum_below n f +ℤ f n
+
+-- the sum of the products at the places of cs
+abbrev pub dot : List ℤ → List ℤ → ℤ
+dot cs zs = sum_below (length cs) (λ k. entry cs k *ℤ entry zs k)

@@ -1,0 +1,2 @@
+//! Laws of whole numbers that the crates above stand on.
+#![tactic(auto)]
