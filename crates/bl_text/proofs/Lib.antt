@@ -1,0 +1,5 @@
+pub mod Cuts
+pub mod Digits
+pub mod LineLaws
+pub mod FieldLaws
+pub mod Plain
