@@ -1,2 +1,15 @@
-//! Laws of whole numbers that the crates above stand on.
+//! Laws of whole numbers that std lacks, and arithmetic whose clauses are equations.
+//!
+//! The laws are lemmas of `proofs/`: the ring laws and products against order (`Products`), sums by place (`SumLemmas`),
+//! sizes (`WithinLemmas`) and a test for identities of polynomials (`IdentityLemmas`). The functions of `long` and `wide`
+//! compute with `i64` and `i128`. What they need, that the answer fits, follows from sizes.
 #![tactic(auto)]
+
+mod dots;
+pub mod laws;
+pub mod long;
+#[cfg(test)]
+mod tests;
+pub mod wide;
+
+pub use dots::dot_product;

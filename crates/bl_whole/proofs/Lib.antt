@@ -1,0 +1,4 @@
+pub mod Products
+pub mod SumLemmas
+pub mod IdentityLemmas
+pub mod WithinLemmas
