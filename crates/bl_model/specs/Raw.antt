@@ -38,6 +38,10 @@ pub record KeepsLimits (mps : RawMps) : Type 0 where
   pub rows : All IsRow mps.rows
   pub columns : All (IsColumn (length mps.rows)) mps.columns
 
+-- 1 where a cost is to be minimised, -1 where it is to be maximised
+abbrev pub IsSense : ℤ → Type 0
+IsSense z = (z ≡ pos 1) ⊎ (z ≡ negsuc 0)
+
 -- no two are equal
 abbrev pub AreDistinct : List ℕ → Type 0
 AreDistinct xs = AllPairs (λ x y. x ≢ y) xs
@@ -51,4 +55,4 @@ pub record FitsModel (column_count row_count : ℕ) (aux : RawAux) : Type 0 wher
   pub distinct_rows : AreDistinct aux.rows
   pub cost_count : length aux.costs ≡ length aux.columns
   pub costs : All IsSmall aux.costs
-  pub sense : (aux.sense ≡ pos 1) ⊎ (aux.sense ≡ negsuc 0)
+  pub sense : IsSense aux.sense

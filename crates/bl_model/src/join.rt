@@ -1,0 +1,233 @@
+//! The program that is made of the two texts.
+
+ghost use Rattle.std.specs.Prelude.{◌≡◌, ◌++◌, ◌<◌, not, ◌&&◌, neg_ℤ, ◌*ℤ◌, length, map, All, IfOk, IfSome, OnOk};
+ghost use Rattle.bl_whole.specs.Sums.{entry};
+ghost use Rattle.std.specs.List.{range_with_len};
+ghost use Rattle.bl_model.specs.Raw.{KeepsLimits, FitsModel, IsSmall, IsSide, IsSense, IsRow, IsColumn};
+ghost use Rattle.bl_model.specs.Build.{dense_column, upper_side, lower_side, rows_from, follower_numbers, number_at, is_in_lower, link_mark, program_of};
+
+use crate::bilevel::Bilevel;
+use crate::places::{marked, marks, numbers};
+use crate::raw::{RawAux, RawColumn, RawMps, RawRow};
+use crate::row::BRow;
+use bl_list::Listed;
+use std::alloc::{AllocError, Global};
+
+// The coefficients of each column, one for each row.
+fn dense_columns(
+    alloc: Global,
+    columns: &[RawColumn],
+    row_count: usize,
+) -> Result<Vec<Listed<i64>>, AllocError>
+    requires { All (IsColumn row_count) columns.now }
+    ensures { IfOk result (λ dense. dense.items ≡ map (λ c. dense_column row_count c) columns.now) }
+{
+    let mut dense = Vec::new(alloc);
+    for column in columns {
+        dense.push(Listed::new(numbers(alloc, row_count, column.entries.as_slice())?))?;
+    }
+    Ok(dense)
+}
+
+// The coefficients of a row, one for each column.
+fn row_coefficients(alloc: Global, dense: &[Listed<i64>], row: usize) -> Result<Vec<i64>, AllocError>
+    ensures { IfOk result (λ coef. coef.items ≡ map (λ numbers. entry numbers row) dense.now) }
+{
+    let mut coef = Vec::with_capacity(alloc, dense.len())?;
+    for numbers in dense {
+        coef.push(numbers.as_slice().get(row).copied().unwrap_or(0))?;
+    }
+    Ok(coef)
+}
+
+fn negated(alloc: Global, coef: &[i64]) -> Result<Vec<i64>, AllocError>
+    requires { All IsSmall coef.now }
+    ensures { IfOk result (λ negated. negated.items ≡ map neg_ℤ coef.now) }
+{
+    let mut negated = Vec::with_capacity(alloc, coef.len())?;
+    for number in coef {
+        negated.push(-*number)?;
+    }
+    Ok(negated)
+}
+
+fn push_upper_side(
+    alloc: Global,
+    rows: &mut Vec<BRow>,
+    coef: &[i64],
+    lower: bool,
+    hi: Option<i64>,
+) -> Result<(), AllocError>
+    ensures { OnOk result (rows.new.items ≡ rows.old.items ++ upper_side coef.now lower hi) }
+{
+    if let Some(right) = hi {
+        let coef = coef.to_vec(alloc)?;
+        rows.push(BRow { coef, right, lower })?;
+    }
+    Ok(())
+}
+
+fn push_lower_side(
+    alloc: Global,
+    rows: &mut Vec<BRow>,
+    coef: &[i64],
+    lower: bool,
+    lo: Option<i64>,
+) -> Result<(), AllocError>
+    requires lo { IfSome lo IsSide }
+    requires coef { All IsSmall coef.now }
+    ensures { OnOk result (rows.new.items ≡ rows.old.items ++ lower_side coef.now lower lo) }
+{
+    if let Some(lo) = lo {
+        let coef = negated(alloc, coef)?;
+        rows.push(BRow {
+            coef,
+            right: -lo,
+            lower,
+        })?;
+    }
+    Ok(())
+}
+
+// Adds the rows of a row of the text: its upper side's and then its lower side's.
+fn push_sides(
+    alloc: Global,
+    rows: &mut Vec<BRow>,
+    coef: &[i64],
+    lower: bool,
+    row: &RawRow,
+) -> Result<(), AllocError>
+    requires coef { All IsSmall coef.now }
+    requires row { IsRow row.now }
+    ensures { OnOk result (rows.new.items ≡ rows.old.items ++ (upper_side coef.now lower row.now.hi ++ lower_side coef.now lower row.now.lo)) }
+{
+    push_upper_side(alloc, rows, coef, lower, row.hi)?;
+    push_lower_side(alloc, rows, coef, lower, row.lo)
+}
+
+// The rows of the program, in the order of the text.
+fn program_rows(
+    alloc: Global,
+    columns: &[RawColumn],
+    text_rows: &[RawRow],
+    lower_rows: &[u32],
+) -> Result<Vec<BRow>, AllocError>
+    requires columns { All (IsColumn (length text_rows.now)) columns.now }
+    requires text_rows { All IsRow text_rows.now }
+    requires lower_rows { All (λ r. r < length text_rows.now) lower_rows.now }
+    ensures { IfOk result (λ rows. rows.items ≡ rows_from columns.now lower_rows.now 0 text_rows.now) }
+{
+    let dense = dense_columns(alloc, columns, text_rows.len())?;
+    let lower = marks(alloc, text_rows.len(), lower_rows)?;
+    let mut rows = Vec::new(alloc);
+    for (at, row) in text_rows.iter().enumerate() {
+        let coef = row_coefficients(alloc, &dense, at)?;
+        push_sides(alloc, &mut rows, &coef, lower[at], row)?;
+    }
+    Ok(rows)
+}
+
+// A cost of the follower, turned round where he maximises.
+fn minimised(cost: i64, sense: i64) -> i64
+    requires cost { IsSmall cost }
+    requires sense { IsSense sense }
+    ensures { result ≡ cost *ℤ sense }
+{
+    cost * sense
+}
+
+// The follower's columns, each with its cost to be minimised.
+fn follower_pairs(alloc: Global, aux: &RawAux) -> Result<Vec<(u32, i64)>, AllocError>
+    requires count { length aux.now.costs ≡ length aux.now.columns }
+    requires costs { All IsSmall aux.now.costs }
+    requires sense { IsSense aux.now.sense }
+    ensures { IfOk result (λ pairs. pairs.items ≡ follower_numbers aux.now) }
+{
+    let columns = aux.columns.as_slice();
+    let costs = aux.costs.as_slice();
+    let mut pairs = Vec::with_capacity(alloc, columns.len())?;
+    for (at, column) in columns.iter().enumerate() {
+        pairs.push((*column, minimised(costs[at], aux.sense)))?;
+    }
+    Ok(pairs)
+}
+
+// Whether some row of the follower has a coefficient other than 0 in the column.
+fn stands_in_lower(rows: &[BRow], column: usize) -> bool
+    ensures { result ≡ is_in_lower rows.now column }
+{
+    rows.iter().any(|row| row.lower && row.coef.get(column).copied().unwrap_or(0) != 0)
+}
+
+// Whether a column of the leader, or not of the follower, stands in a row of the follower.
+fn is_linking(follows: bool, rows: &[BRow], column: usize) -> bool
+    ensures { result ≡ (not follows && is_in_lower rows.now column) }
+{
+    !follows && stands_in_lower(rows, column)
+}
+
+// The marks of the linking columns.
+fn link_marks(alloc: Global, is_follower: &[bool], rows: &[BRow]) -> Result<Vec<bool>, AllocError>
+    ensures { IfOk result (λ marks. marks.items ≡ map (link_mark is_follower.now rows.now) (range_with_len 0 (length is_follower.now))) }
+{
+    let mut marks = Vec::with_capacity(alloc, is_follower.len())?;
+    for (column, follows) in is_follower.iter().enumerate() {
+        marks.push(is_linking(*follows, rows, column))?;
+    }
+    Ok(marks)
+}
+
+// The follower's cost of each column.
+fn follower_costs(alloc: Global, column_count: usize, aux: &RawAux) -> Result<Vec<i64>, AllocError>
+    requires columns { All (λ c. c < column_count) aux.now.columns }
+    requires count { length aux.now.costs ≡ length aux.now.columns }
+    requires costs { All IsSmall aux.now.costs }
+    requires sense { IsSense aux.now.sense }
+    ensures { IfOk result (λ costs. costs.items ≡ map (number_at (follower_numbers aux.now)) (range_with_len 0 column_count)) }
+{
+    let pairs = follower_pairs(alloc, aux)?;
+    numbers(alloc, column_count, &pairs)
+}
+
+fn lows(alloc: Global, columns: &[RawColumn]) -> Result<Vec<i64>, AllocError>
+    ensures { IfOk result (λ lows. lows.items ≡ map (λ c. c.lo) columns.now) }
+{
+    columns.iter().map(|column| column.lo).collect(alloc)
+}
+
+fn highs(alloc: Global, columns: &[RawColumn]) -> Result<Vec<i64>, AllocError>
+    ensures { IfOk result (λ highs. highs.items ≡ map (λ c. c.hi) columns.now) }
+{
+    columns.iter().map(|column| column.hi).collect(alloc)
+}
+
+fn costs(alloc: Global, columns: &[RawColumn]) -> Result<Vec<i64>, AllocError>
+    ensures { IfOk result (λ costs. costs.items ≡ map (λ c. c.cost) columns.now) }
+{
+    columns.iter().map(|column| column.cost).collect(alloc)
+}
+
+/// Makes the program that the two texts describe: for each row of the MPS text in order its upper
+/// side as `coef·z <= hi` and then its lower side as `-coef·z <= -lo`, the follower's costs turned
+/// round where he maximises, and the linking columns, which are those of the leader that stand in
+/// a row of the follower.
+pub fn build(alloc: Global, mps: &RawMps, aux: &RawAux) -> Result<Bilevel, AllocError>
+    requires mps { KeepsLimits mps.now }
+    requires aux { FitsModel (length mps.now.columns) (length mps.now.rows) aux.now }
+    ensures { IfOk result (λ model. model ≡ program_of mps.now aux.now) }
+{
+    let columns = mps.columns.as_slice();
+    let rows = program_rows(alloc, columns, mps.rows.as_slice(), aux.rows.as_slice())?;
+    let is_follower = marks(alloc, columns.len(), aux.columns.as_slice())?;
+    let is_link = link_marks(alloc, &is_follower, &rows)?;
+    Ok(Bilevel {
+        lo: lows(alloc, columns)?,
+        hi: highs(alloc, columns)?,
+        rows,
+        cost: costs(alloc, columns)?,
+        follower_cost: follower_costs(alloc, columns.len(), aux)?,
+        follower: marked(alloc, &is_follower)?,
+        links: marked(alloc, &is_link)?,
+        sense: aux.sense,
+    })
+}
