@@ -1,3 +1,4 @@
 pub mod Points
 pub mod Programs
 pub mod Feasible
+pub mod Responses
