@@ -1,2 +1,4 @@
 pub mod PlaceLemmas
 pub mod ResponseLemmas
+pub mod TreeLemmas
+pub mod BoundLemmas

@@ -4,3 +4,4 @@
 #![tactic(auto)]
 
 pub mod responses;
+pub mod trees;
