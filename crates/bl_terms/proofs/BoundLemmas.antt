@@ -3,18 +3,29 @@ use Rattle.std.proofs.Common.{◌≡◌, ℕ, ◌<◌, refl, sym, ◌∙◌, ap,
 use Rattle.std.specs.Prelude.{ℤ, pos, negsuc, ◌+ℤ◌, ◌-ℤ◌, ◌*ℤ◌, ◌≤ℤ◌, ◌<ℤ◌, int_lt, Option, Some, None}
 use Rattle.std.proofs.Math.IntN.{zero-*ℤ, *ℤ_comm}
 use Rattle.std.proofs.lemmas.Int.{ints}
+use Rattle.std.specs.Int.Signed.{≤ℤ_refl}
 use Rattle.bl_whole.specs.Sums.{entry, sum_below, dot}
 use Rattle.bl_whole.proofs.Products.{*ℤ_assoc, +ℤ-*ℤ, mul_le_left, mul_le_left_neg, lt_of_mul_lt}
 use Rattle.bl_whole.proofs.SumLemmas.{sum_below-agree, sum_below-add, sum_below-scale, sum_below-exchange, sum_below_monotone}
 use Rattle.bl_terms.specs.Points.{Area, IsArea, InArea, Linear, Meets}
 use Rattle.bl_terms.specs.Bounds.{Problem, linear_at, IsPoint, IsProblem, Weights, weight_at, least_product, least_term, right_sum, bound_of, mark_of, AreWeights, Proves, LeastProduct, WeakDuality, NoPoint, NoCutoffNoPoint}
 
-pub least_product_is_least : LeastProduct
-least_product_is_least a lo hi x low high = by (int_lt a (pos 0)) refl
+least_of_range : (a lo hi x : ℤ) → lo ≤ℤ x → x ≤ℤ hi → least_product a lo hi ≤ℤ (a *ℤ x)
+least_of_range a lo hi x low high = by (int_lt a (pos 0)) refl
   where
     by : (t : Bool) → int_lt a (pos 0) ≡ t → cond t (a *ℤ hi) (a *ℤ lo) ≤ℤ (a *ℤ x)
     by true e = mul_le_left_neg a (omega (arith, ints)) high
     by false e = mul_le_left a (omega (arith, ints)) low
+
+reached_in_range : (a lo hi : ℤ) → lo ≤ℤ hi → (x : ℤ) × (lo ≤ℤ x) × (x ≤ℤ hi) × (least_product a lo hi ≡ a *ℤ x)
+reached_in_range a lo hi h = by (int_lt a (pos 0))
+  where
+    by : (t : Bool) → (x : ℤ) × (lo ≤ℤ x) × (x ≤ℤ hi) × (cond t (a *ℤ hi) (a *ℤ lo) ≡ a *ℤ x)
+    by true = (hi, h, ≤ℤ_refl hi, refl)
+    by false = (lo, ≤ℤ_refl lo, h, refl)
+
+pub least_product_is_least : LeastProduct
+least_product_is_least a lo hi h = (least_of_range a lo hi, reached_in_range a lo hi h)
 
 -- one column's term: the weight's parts are multiplied by the column's number one by one
 term : (q : Problem) (w : Weights) (z : List ℤ) (j : ℕ) → weight_at q w j *ℤ entry z j
@@ -57,7 +68,7 @@ bound_below_cost q u w z g proof point =
     let m = length q.rows in
     let least : sum_below (length q.area.lo) (least_term q w) ≤ℤ sum_below (length q.area.lo) (λ j. weight_at q w j *ℤ entry z j) =
         sum_below_monotone (length q.area.lo) (least_term q w) (λ j. weight_at q w j *ℤ entry z j)
-        (λ j b. least_product_is_least (weight_at q w j) (entry q.area.lo j) (entry q.area.hi j) (entry z j) (point.inside.least j b) (point.inside.most j b)) in
+        (λ j b. least_of_range (weight_at q w j) (entry q.area.lo j) (entry q.area.hi j) (entry z j) (point.inside.least j b) (point.inside.most j b)) in
     let rights : sum_below m (λ i. entry w.mult i *ℤ dot (linear_at q.rows i).coef z) ≤ℤ right_sum q w =
         sum_below_monotone m (λ i. entry w.mult i *ℤ dot (linear_at q.rows i).coef z) (λ i. entry w.mult i *ℤ (linear_at q.rows i).right)
         (λ i b. mul_le_left (entry w.mult i) (proof.weights.least i (rw proof.rows b)) (point.rows i b).holds) in

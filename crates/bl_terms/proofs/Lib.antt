@@ -2,3 +2,4 @@ pub mod PlaceLemmas
 pub mod ResponseLemmas
 pub mod TreeLemmas
 pub mod BoundLemmas
+pub mod FollowerProofLemmas

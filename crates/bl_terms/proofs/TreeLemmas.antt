@@ -166,28 +166,6 @@ each_point_in_one_leaf nodes a z tree e inside =
             (λ m m' c c' h h'. omega arith) in
     (r.0, r.1, r.2, λ i' b h. one i' r.0 b r.1 h r.2)
 
--- ---- what leaves show of their points is shown of the box
-
-pub from_leaves : {L : Type 0} (closes : Area → L → Type 0) (P : List ℤ → Type 0) → ((a : Area) (x : L) (z : List ℤ) → closes a x → InArea a z → P z)
-    → (nodes : List (Node L)) (stack : List Area) (z : List ℤ) → HaveSides stack → Covers closes nodes stack → (m : ℕ) → m < length stack → InArea (area_at stack m) z → P z
-from_leaves closes P each [] [] z sides covers m b inside = absurd (omega arith)
-from_leaves closes P each [] (a ∷ stack) z sides covers m b inside = absurd covers
-from_leaves closes P each (Leaf x ∷ ns) [] z sides covers m b inside = absurd covers
-from_leaves closes P each (Split j v ∷ ns) [] z sides covers m b inside = absurd covers
-from_leaves closes P each (Leaf x ∷ ns) (a ∷ stack) z sides covers zero b inside = each a x z covers.0 inside
-from_leaves closes P each (Leaf x ∷ ns) (a ∷ stack) z sides covers (suc m) b inside = from_leaves closes P each ns stack z sides.1 covers.1 m (omega arith) inside
-from_leaves closes P each (Split j v ∷ ns) (a ∷ stack) z sides covers zero b inside =
-    by_lt_z v (entry z j)
-    (λ h. from_leaves closes P each ns (low_half a j v ∷ high_half a j v ∷ stack) z (halves_have_sides a j v stack sides) covers.1 1 (omega arith) (in_high a j v z covers.0 inside h))
-    (λ h. from_leaves closes P each ns (low_half a j v ∷ high_half a j v ∷ stack) z (halves_have_sides a j v stack sides) covers.1 0 (omega arith) (in_low a j v z covers.0 sides.0 inside h))
-from_leaves closes P each (Split j v ∷ ns) (a ∷ stack) z sides covers (suc m) b inside =
-    from_leaves closes P each ns (low_half a j v ∷ high_half a j v ∷ stack) z (halves_have_sides a j v stack sides) covers.1 (suc (suc m)) (omega arith) inside
-
--- what every leaf of a tree over a box shows of its points holds of each point of the box
-pub tree_shows : {L : Type 0} (closes : Area → L → Type 0) (P : List ℤ → Type 0) → ((a : Area) (x : L) (z : List ℤ) → closes a x → InArea a z → P z)
-    → (nodes : List (Node L)) (a : Area) → length a.hi ≡ length a.lo → Covers closes nodes (a ∷ []) → (z : List ℤ) → InArea a z → P z
-tree_shows closes P each nodes a e covers z inside = from_leaves closes P each nodes (a ∷ []) z (e, tt) covers 0 (omega arith) inside
-
 -- ---- the boxes of leaves are parts
 
 low_area : (a : Area) (j : ℕ) (v : ℤ) → CanSplit a j v → IsArea a → IsArea (low_half a j v)
@@ -236,6 +214,28 @@ leaves_are_parts nodes a i tree g b =
     only : {z : List ℤ} → (m : ℕ) × (m < length (a ∷ [])) × InArea (area_at (a ∷ []) m) z → InArea a z
     only (zero, c, h) = h
     only (suc m, c, h) = absurd (omega arith)
+
+-- ---- what leaves show of their points is shown of the box
+
+pub from_leaves : {L : Type 0} (closes : Area → L → Type 0) (P : List ℤ → Type 0) → ((a : Area) (x : L) (z : List ℤ) → IsArea a → closes a x → InArea a z → P z)
+    → (nodes : List (Node L)) (stack : List Area) (z : List ℤ) → AreAreas stack → Covers closes nodes stack → (m : ℕ) → m < length stack → InArea (area_at stack m) z → P z
+from_leaves closes P each [] [] z areas covers m b inside = absurd (omega arith)
+from_leaves closes P each [] (a ∷ stack) z areas covers m b inside = absurd covers
+from_leaves closes P each (Leaf x ∷ ns) [] z areas covers m b inside = absurd covers
+from_leaves closes P each (Split j v ∷ ns) [] z areas covers m b inside = absurd covers
+from_leaves closes P each (Leaf x ∷ ns) (a ∷ stack) z areas covers zero b inside = each a x z areas.0 covers.0 inside
+from_leaves closes P each (Leaf x ∷ ns) (a ∷ stack) z areas covers (suc m) b inside = from_leaves closes P each ns stack z areas.1 covers.1 m (omega arith) inside
+from_leaves closes P each (Split j v ∷ ns) (a ∷ stack) z areas covers zero b inside =
+    by_lt_z v (entry z j)
+    (λ h. from_leaves closes P each ns (low_half a j v ∷ high_half a j v ∷ stack) z (low_area a j v covers.0 areas.0, (high_area a j v covers.0 areas.0, areas.1)) covers.1 1 (omega arith) (in_high a j v z covers.0 inside h))
+    (λ h. from_leaves closes P each ns (low_half a j v ∷ high_half a j v ∷ stack) z (low_area a j v covers.0 areas.0, (high_area a j v covers.0 areas.0, areas.1)) covers.1 0 (omega arith) (in_low a j v z covers.0 areas.0.sides inside h))
+from_leaves closes P each (Split j v ∷ ns) (a ∷ stack) z areas covers (suc m) b inside =
+    from_leaves closes P each ns (low_half a j v ∷ high_half a j v ∷ stack) z (low_area a j v covers.0 areas.0, (high_area a j v covers.0 areas.0, areas.1)) covers.1 (suc (suc m)) (omega arith) inside
+
+-- what every leaf of a tree over a box shows of its points holds of each point of the box
+pub tree_shows : {L : Type 0} (closes : Area → L → Type 0) (P : List ℤ → Type 0) → ((a : Area) (x : L) (z : List ℤ) → IsArea a → closes a x → InArea a z → P z)
+    → (nodes : List (Node L)) (a : Area) → IsArea a → Covers closes nodes (a ∷ []) → (z : List ℤ) → InArea a z → P z
+tree_shows closes P each nodes a g covers z inside = from_leaves closes P each nodes (a ∷ []) z (g, tt) covers 0 (omega arith) inside
 
 -- ---- leaves and points by number
 

@@ -86,10 +86,11 @@ pub record Proves (q : Problem) (u : Option ℤ) (w : Weights) : Type 0 where
 
 -- THE LAWS
 
--- the least product is at most every product, and one of the ends reaches it
+-- the least product is at most every product of the range, and a number of the range reaches it
 abbrev pub LeastProduct : Type 0
 LeastProduct =
-    (a lo hi x : ℤ) → lo ≤ℤ x → x ≤ℤ hi → (least_product a lo hi ≤ℤ (a *ℤ x))
+    (a lo hi : ℤ) → lo ≤ℤ hi
+    → ((x : ℤ) → lo ≤ℤ x → x ≤ℤ hi → least_product a lo hi ≤ℤ (a *ℤ x)) × ((x : ℤ) × (lo ≤ℤ x) × (x ≤ℤ hi) × (least_product a lo hi ≡ a *ℤ x))
 
 -- weak duality: every point of the box that meets the rows costs at least the proved cutoff
 abbrev pub WeakDuality : Type 0

@@ -4,3 +4,4 @@ pub mod Feasible
 pub mod Responses
 pub mod Trees
 pub mod Bounds
+pub mod FollowerProofs

@@ -3,5 +3,7 @@
 //! The definitions stand in `specs/`, one file for each subject. Each law is the contract of a function that does nothing.
 #![tactic(auto)]
 
+pub mod bounds;
+pub mod follower_proofs;
 pub mod responses;
 pub mod trees;
