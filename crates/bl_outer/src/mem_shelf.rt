@@ -1,4 +1,4 @@
-ghost use Rattle.std.specs.Prelude.{◌≡◌, ◌-◌, ◌<◌, ◌≤◌, [], Some, IfOk, OnOk, OnErr, take, drop, length};
+ghost use Rattle.std.specs.Prelude.{◌≡◌, ◌-◌, ◌<◌, ◌≤◌, [], Some, IfOk, OnOk, OnErr, IsErr, IsTrue, is_err, take, drop, length};
 ghost use Rattle.std.specs.Option.{option_map};
 ghost use Rattle.std.specs.FinMap.{empty, get, insert};
 
@@ -102,6 +102,11 @@ impl MemShelf {
 }
 
 impl Shelf for MemShelf {
+    ghost use Rattle.bl_outer.specs.Count.{HasCause};
+    ghost use Rattle.bl_outer.specs.Files.{Empties, Appends, AppendsPrefix};
+    ghost use Rattle.bl_outer.specs.Mem.{is_planned, after_call};
+    ghost use Rattle.bl_outer.specs.Shelf.{Nothing, IsReading, IsWriting, chosen_name, mode_found, mode_read, mode_begun, FindsIn, GivesNext, CountsMiss};
+
     ghost contents = { λ shelf. Some shelf.files };
 
     ghost mode = { λ shelf. shelf.mode };
@@ -112,7 +117,18 @@ impl Shelf for MemShelf {
 
     ghost misses = { λ shelf. shelf.misses };
 
-    fn find(&mut self, name: &str) -> Result<Found, ShelfFail> {
+    fn find(&mut self, name: &str) -> Result<Found, ShelfFail>
+        ensures chosen { self.new.mode ≡ mode_found name.now result }
+        ensures exact { FindsIn result name.now self.old.files }
+        ensures files { self.new.files ≡ self.old.files }
+
+        ensures read_cause { HasCause self.old.read_faults self.new.read_faults result }
+        ensures missed { CountsMiss self.old.misses self.new.misses result }
+        ensures write_faults { self.new.write_faults ≡ self.old.write_faults }
+
+        ensures planned { is_err result ≡ is_planned self.old.plan }
+        ensures calls { self.new.plan ≡ after_call self.old.plan }
+    {
         if self.plan.count() {
             return Err(self.fail_read());
         }
@@ -129,7 +145,24 @@ impl Shelf for MemShelf {
         }
     }
 
-    fn next(&mut self, into: &mut [u8]) -> Result<usize, ShelfFail> {
+    fn next(&mut self, into: &mut [u8]) -> Result<usize, ShelfFail>
+        requires reading { IsReading self.old.mode }
+        requires room { 0 < length into.old }
+
+        ensures chosen { self.new.mode ≡ mode_read self.old.mode result }
+        ensures count { IfOk result (λ n. n ≤ length into.old) }
+        ensures bytes { IfOk result (λ n. GivesNext self.old.mode n into.new self.old.files) }
+        ensures rest { IfOk result (λ n. drop n into.new ≡ drop n into.old) }
+        ensures err { OnErr result (into.new ≡ into.old) }
+        ensures files { self.new.files ≡ self.old.files }
+
+        ensures read_cause { HasCause self.old.read_faults self.new.read_faults result }
+        ensures misses { self.new.misses ≡ self.old.misses }
+        ensures write_faults { self.new.write_faults ≡ self.old.write_faults }
+
+        ensures planned { is_err result ≡ is_planned self.old.plan }
+        ensures calls { self.new.plan ≡ after_call self.old.plan }
+    {
         if self.plan.count() {
             return Err(self.fail_read());
         }
@@ -144,7 +177,18 @@ impl Shelf for MemShelf {
         Ok(given)
     }
 
-    fn begin(&mut self, name: &str) -> Result<(), ShelfFail> {
+    fn begin(&mut self, name: &str) -> Result<(), ShelfFail>
+        ensures chosen { self.new.mode ≡ mode_begun name.now result }
+        ensures ok { OnOk result (Empties name.now self.old.files self.new.files) }
+        ensures err { OnErr result (self.new.files ≡ self.old.files) }
+
+        ensures write_cause { HasCause self.old.write_faults self.new.write_faults result }
+        ensures read_faults { self.new.read_faults ≡ self.old.read_faults }
+        ensures misses { self.new.misses ≡ self.old.misses }
+
+        ensures planned { IsTrue (is_planned self.old.plan) → IsErr result }
+        ensures calls { self.new.plan ≡ after_call self.old.plan }
+    {
         self.chosen = Chosen::Nothing;
         if self.plan.count() {
             return Err(self.fail_write());
@@ -156,7 +200,20 @@ impl Shelf for MemShelf {
         Ok(())
     }
 
-    fn append(&mut self, piece: &[u8]) -> Result<(), ShelfFail> {
+    fn append(&mut self, piece: &[u8]) -> Result<(), ShelfFail>
+        requires writing { IsWriting self.old.mode }
+
+        ensures chosen { self.new.mode ≡ self.old.mode }
+        ensures ok { OnOk result (Appends (chosen_name self.old.mode) piece.now self.old.files self.new.files) }
+        ensures err { OnErr result (AppendsPrefix (chosen_name self.old.mode) piece.now self.old.files self.new.files) }
+
+        ensures write_cause { HasCause self.old.write_faults self.new.write_faults result }
+        ensures read_faults { self.new.read_faults ≡ self.old.read_faults }
+        ensures misses { self.new.misses ≡ self.old.misses }
+
+        ensures planned { IsTrue (is_planned self.old.plan) → IsErr result }
+        ensures calls { self.new.plan ≡ after_call self.old.plan }
+    {
         let fails = self.plan.count();
         let Chosen::Writing { file } = self.chosen else {
             unreachable!()
@@ -167,7 +224,19 @@ impl Shelf for MemShelf {
         Err(self.fail_write())
     }
 
-    fn finish(&mut self) -> Result<(), ShelfFail> {
+    fn finish(&mut self) -> Result<(), ShelfFail>
+        requires writing { IsWriting self.old.mode }
+
+        ensures chosen { self.new.mode ≡ Nothing }
+        ensures files { self.new.files ≡ self.old.files }
+
+        ensures write_cause { HasCause self.old.write_faults self.new.write_faults result }
+        ensures read_faults { self.new.read_faults ≡ self.old.read_faults }
+        ensures misses { self.new.misses ≡ self.old.misses }
+
+        ensures planned { is_err result ≡ is_planned self.old.plan }
+        ensures calls { self.new.plan ≡ after_call self.old.plan }
+    {
         self.chosen = Chosen::Nothing;
         if self.plan.count() {
             return Err(self.fail_write());

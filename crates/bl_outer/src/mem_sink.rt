@@ -1,5 +1,7 @@
-ghost use Rattle.std.specs.Prelude.{◌≡◌, [], Some, IsTrue, IsErr, IfOk};
-ghost use Rattle.bl_outer.specs.Mem.{Plan, is_planned};
+ghost use Rattle.std.specs.Prelude.{◌≡◌, [], Some, IsTrue, IsErr, IfOk, OnOk, OnErr};
+ghost use Rattle.bl_outer.specs.Count.{HasCause};
+ghost use Rattle.bl_outer.specs.Mem.{is_planned, after_call};
+ghost use Rattle.bl_outer.specs.Sink.{Adds, AddsPrefix};
 
 use crate::plan::{CallPlan, add_piece, risen};
 use crate::sink::{Sink, SinkFail};
@@ -47,7 +49,14 @@ impl Sink for MemSink {
 
     ghost faults = { λ sink. sink.faults };
 
-    fn put(&mut self, piece: &[u8]) -> Result<(), SinkFail> {
+    fn put(&mut self, piece: &[u8]) -> Result<(), SinkFail>
+        ensures ok { OnOk result (Adds piece.now self.old.bytes self.new.bytes) }
+        ensures err { OnErr result (AddsPrefix piece.now self.old.bytes self.new.bytes) }
+        ensures cause { HasCause self.old.faults self.new.faults result }
+
+        ensures planned { IsTrue (is_planned self.old.plan) → IsErr result }
+        ensures calls { self.new.plan ≡ after_call self.old.plan }
+    {
         let fails = self.plan.count();
         if add_piece(&mut self.written, piece, fails) {
             return Ok(());
