@@ -1,2 +1,9 @@
-//! The definitions of bilevel integer programs, and their laws.
+//! The definitions of bilevel integer programs that every answer rests on, and their laws.
+//!
+//! The definitions stand in `specs/`, one file for each subject. Each law is the contract of a function that does nothing.
 #![tactic(auto)]
+
+pub mod bounds;
+pub mod follower_proofs;
+pub mod responses;
+pub mod trees;

@@ -1,0 +1,12 @@
+-- Counts of what went wrong outside. A count never falls, and stands still at 2^64 - 1.
+use Rattle.std.specs.Prelude.{◌≡◌, ℕ, ◌+◌, ◌-◌, ◌^◌, ◌≤◌, min, Ok, Err}
+use Rattle.std.specs.declared.result.Result.{Result}
+
+-- a count is higher than before, or stands at its greatest value
+abbrev pub Rose : ℕ → ℕ → Type 0
+Rose before now = min (before + 1) (2 ^ 64 - 1) ≤ now
+
+-- the count of faults rose in a call that failed, and stayed in any other
+abbrev pub HasCause : {T E : Type 0} → ℕ → ℕ → Result T E → Type 0
+HasCause before now (Ok _) = now ≡ before
+HasCause before now (Err _) = (before ≤ now) × Rose before now

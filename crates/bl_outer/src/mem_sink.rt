@@ -1,0 +1,67 @@
+ghost use Rattle.std.specs.Prelude.{◌≡◌, [], Some, IsTrue, IsErr, IfOk, OnOk, OnErr};
+ghost use Rattle.bl_outer.specs.Count.{HasCause};
+ghost use Rattle.bl_outer.specs.Mem.{is_planned, after_call};
+ghost use Rattle.bl_outer.specs.Sink.{Adds, AddsPrefix};
+
+use crate::plan::{CallPlan, add_piece, risen};
+use crate::sink::{Sink, SinkFail};
+use std::alloc::{AllocError, Global};
+use std::marker::Model;
+
+/// An output in memory. The calls of `put` that are to fail are told by number.
+#[derive(Drop)]
+pub struct MemSink {
+    written: Vec<u8>,
+    plan: CallPlan,
+    faults: u64,
+}
+
+impl Model for MemSink {
+    ghost use Rattle.bl_outer.specs.Mem.{SinkState};
+
+    ghost Value = { SinkState };
+
+    ghost view = { λ a. record { bytes = a.written.items; faults = a.faults; plan = a.plan } };
+}
+
+impl MemSink {
+    /// An empty output. The numbers in `fails` count the calls of `put` from 1.
+    pub fn new(alloc: Global, fails: &[u64]) -> Result<MemSink, AllocError>
+        ensures { IfOk result (λ sink. sink ≡ record { bytes = []; faults = 0; plan = record { fails = fails.now; calls = 0 } }) }
+    {
+        Ok(MemSink {
+            written: Vec::new(alloc),
+            plan: CallPlan::new(alloc, fails)?,
+            faults: 0,
+        })
+    }
+
+    /// What was put so far.
+    pub fn bytes(&self) -> &[u8]
+        ensures { result.now ≡ self.now.bytes }
+    {
+        &self.written
+    }
+}
+
+impl Sink for MemSink {
+    ghost bytes = { λ sink. Some sink.bytes };
+
+    ghost faults = { λ sink. sink.faults };
+
+    fn put(&mut self, piece: &[u8]) -> Result<(), SinkFail>
+        ensures ok { OnOk result (Adds piece.now self.old.bytes self.new.bytes) }
+        ensures err { OnErr result (AddsPrefix piece.now self.old.bytes self.new.bytes) }
+        ensures cause { HasCause self.old.faults self.new.faults result }
+
+        ensures planned { IsTrue (is_planned self.old.plan) → IsErr result }
+        ensures calls { self.new.plan ≡ after_call self.old.plan }
+    {
+        let fails = self.plan.count();
+        if add_piece(&mut self.written, piece, fails) {
+            return Ok(());
+        }
+        self.faults = risen(self.faults);
+        Err(SinkFail)
+    }
+}

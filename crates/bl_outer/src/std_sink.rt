@@ -1,0 +1,40 @@
+ghost use Rattle.std.specs.Prelude.{None};
+
+use crate::plan::risen;
+use crate::sink::{Sink, SinkFail};
+use std::io;
+use std::io::Write;
+
+/// A writer as an output, such as standard output or standard error. What `put` accepted is flushed.
+///
+/// It doesn't tell the bytes.
+#[derive(Drop)]
+pub struct StdSink<W: Write> {
+    writer: W,
+    faults: u64,
+}
+
+impl<W: Write> StdSink<W> {
+    pub fn new(writer: W) -> StdSink<W> {
+        StdSink { writer, faults: 0 }
+    }
+}
+
+impl<W: Write> Sink for StdSink<W> {
+    ghost bytes = { λ _. None };
+
+    ghost faults = { λ sink. sink.faults };
+
+    fn put(&mut self, piece: &[u8]) -> Result<(), SinkFail> {
+        if write_through(&mut self.writer, piece).is_err() {
+            self.faults = risen(self.faults);
+            return Err(SinkFail);
+        }
+        Ok(())
+    }
+}
+
+fn write_through<W: Write>(writer: &mut W, piece: &[u8]) -> io::Result<()> {
+    writer.write_all(piece)?;
+    writer.flush()
+}

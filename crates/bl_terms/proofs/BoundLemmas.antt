@@ -1,0 +1,99 @@
+-- Weak duality.
+use Rattle.std.proofs.Common.{◌≡◌, ℕ, ◌<◌, refl, sym, ◌∙◌, ap, subst, arith, Bool, true, false, cond, List, length}
+use Rattle.std.specs.Prelude.{ℤ, pos, negsuc, ◌+ℤ◌, ◌-ℤ◌, ◌*ℤ◌, ◌≤ℤ◌, ◌<ℤ◌, int_lt, Option, Some, None}
+use Rattle.std.proofs.Math.IntN.{zero-*ℤ, *ℤ_comm}
+use Rattle.std.proofs.lemmas.Int.{ints}
+use Rattle.std.specs.Int.Signed.{≤ℤ_refl}
+use Rattle.bl_whole.specs.Sums.{entry, sum_below, dot}
+use Rattle.bl_whole.proofs.Products.{*ℤ_assoc, +ℤ-*ℤ, mul_le_left, mul_le_left_neg, lt_of_mul_lt}
+use Rattle.bl_whole.proofs.SumLemmas.{sum_below-agree, sum_below-add, sum_below-scale, sum_below-exchange, sum_below_monotone}
+use Rattle.bl_terms.specs.Points.{Area, IsArea, InArea, Linear, Meets}
+use Rattle.bl_terms.specs.Bounds.{Problem, linear_at, IsPoint, IsProblem, Weights, weight_at, least_product, least_term, right_sum, bound_of, mark_of, AreWeights, Proves, LeastProduct, WeakDuality, NoPoint, NoCutoffNoPoint}
+
+least_of_range : (a lo hi x : ℤ) → lo ≤ℤ x → x ≤ℤ hi → least_product a lo hi ≤ℤ (a *ℤ x)
+least_of_range a lo hi x low high = by (int_lt a (pos 0)) refl
+  where
+    by : (t : Bool) → int_lt a (pos 0) ≡ t → cond t (a *ℤ hi) (a *ℤ lo) ≤ℤ (a *ℤ x)
+    by true e = mul_le_left_neg a (omega (arith, ints)) high
+    by false e = mul_le_left a (omega (arith, ints)) low
+
+reached_in_range : (a lo hi : ℤ) → lo ≤ℤ hi → (x : ℤ) × (lo ≤ℤ x) × (x ≤ℤ hi) × (least_product a lo hi ≡ a *ℤ x)
+reached_in_range a lo hi h = by (int_lt a (pos 0))
+  where
+    by : (t : Bool) → (x : ℤ) × (lo ≤ℤ x) × (x ≤ℤ hi) × (cond t (a *ℤ hi) (a *ℤ lo) ≡ a *ℤ x)
+    by true = (hi, h, ≤ℤ_refl hi, refl)
+    by false = (lo, ≤ℤ_refl lo, h, refl)
+
+pub least_product_is_least : LeastProduct
+least_product_is_least a lo hi h = (least_of_range a lo hi, reached_in_range a lo hi h)
+
+-- one column's term: the weight's parts are multiplied by the column's number one by one
+term : (q : Problem) (w : Weights) (z : List ℤ) (j : ℕ) → weight_at q w j *ℤ entry z j
+    ≡ w.den *ℤ (entry q.cost j *ℤ entry z j) +ℤ sum_below (length q.rows) (λ i. entry w.mult i *ℤ (entry (linear_at q.rows i).coef j *ℤ entry z j))
+term q w z j =
+    let m = length q.rows in
+    let a : ℕ → ℤ = λ i. entry w.mult i *ℤ entry (linear_at q.rows i).coef j in
+    let parts = +ℤ-*ℤ (w.den *ℤ entry q.cost j) (sum_below m a) (entry z j) in
+    let cost = *ℤ_assoc w.den (entry q.cost j) (entry z j) in
+    let turned = *ℤ_comm (sum_below m a) (entry z j) in
+    let scaled = sum_below-scale m (entry z j) a in
+    let each : sum_below m (λ i. entry z j *ℤ a i) ≡ sum_below m (λ i. entry w.mult i *ℤ (entry (linear_at q.rows i).coef j *ℤ entry z j)) =
+        sum_below-agree m (λ i. entry z j *ℤ a i) (λ i. entry w.mult i *ℤ (entry (linear_at q.rows i).coef j *ℤ entry z j))
+        (λ i b. *ℤ_comm (entry z j) (a i) ∙ *ℤ_assoc (entry w.mult i) (entry (linear_at q.rows i).coef j) (entry z j)) in
+    omega (arith, ints)
+
+-- the weighted rows and the weighted cost at z, column by column
+weighted : (q : Problem) (w : Weights) (z : List ℤ) → IsProblem q
+    → sum_below (length q.area.lo) (λ j. weight_at q w j *ℤ entry z j)
+    ≡ w.den *ℤ dot q.cost z +ℤ sum_below (length q.rows) (λ i. entry w.mult i *ℤ dot (linear_at q.rows i).coef z)
+weighted q w z g =
+    let n = length q.area.lo in
+    let m = length q.rows in
+    let a : ℕ → ℕ → ℤ = λ i j. entry w.mult i *ℤ (entry (linear_at q.rows i).coef j *ℤ entry z j) in
+    let each : sum_below n (λ j. weight_at q w j *ℤ entry z j) ≡ sum_below n (λ j. w.den *ℤ (entry q.cost j *ℤ entry z j) +ℤ sum_below m (λ i. a i j)) =
+        sum_below-agree n (λ j. weight_at q w j *ℤ entry z j) (λ j. w.den *ℤ (entry q.cost j *ℤ entry z j) +ℤ sum_below m (λ i. a i j)) (λ j b. term q w z j) in
+    let added = sum_below-add n (λ j. w.den *ℤ (entry q.cost j *ℤ entry z j)) (λ j. sum_below m (λ i. a i j)) in
+    let cost : sum_below n (λ j. w.den *ℤ (entry q.cost j *ℤ entry z j)) ≡ w.den *ℤ dot q.cost z =
+        rw (← g.cost_columns) (sum_below-scale (length q.cost) w.den (λ j. entry q.cost j *ℤ entry z j)) in
+    let turned : sum_below n (λ j. sum_below m (λ i. a i j)) ≡ sum_below m (λ i. sum_below n (λ j. a i j)) = sum_below-exchange n m (λ j i. a i j) in
+    let rows : sum_below m (λ i. sum_below n (λ j. a i j)) ≡ sum_below m (λ i. entry w.mult i *ℤ dot (linear_at q.rows i).coef z) =
+        sum_below-agree m (λ i. sum_below n (λ j. a i j)) (λ i. entry w.mult i *ℤ dot (linear_at q.rows i).coef z)
+        (λ i b. let c = g.row_columns i b in
+            rw (← c) (sum_below-scale (length (linear_at q.rows i).coef) (entry w.mult i) (λ j. entry (linear_at q.rows i).coef j *ℤ entry z j))) in
+    omega (arith, ints)
+
+-- the bound is at most the weighted cost of each point of the box that meets the rows
+bound_below_cost : (q : Problem) (u : Option ℤ) (w : Weights) (z : List ℤ) → IsProblem q → Proves q u w → IsPoint q z → bound_of q w ≤ℤ (w.den *ℤ dot q.cost z)
+bound_below_cost q u w z g proof point =
+    let m = length q.rows in
+    let least : sum_below (length q.area.lo) (least_term q w) ≤ℤ sum_below (length q.area.lo) (λ j. weight_at q w j *ℤ entry z j) =
+        sum_below_monotone (length q.area.lo) (least_term q w) (λ j. weight_at q w j *ℤ entry z j)
+        (λ j b. least_of_range (weight_at q w j) (entry q.area.lo j) (entry q.area.hi j) (entry z j) (point.inside.least j b) (point.inside.most j b)) in
+    let rights : sum_below m (λ i. entry w.mult i *ℤ dot (linear_at q.rows i).coef z) ≤ℤ right_sum q w =
+        sum_below_monotone m (λ i. entry w.mult i *ℤ dot (linear_at q.rows i).coef z) (λ i. entry w.mult i *ℤ (linear_at q.rows i).right)
+        (λ i b. mul_le_left (entry w.mult i) (proof.weights.least i (rw proof.rows b)) (point.rows i b).holds) in
+    let e = weighted q w z g in
+    omega (arith, ints)
+
+pub weak_duality : WeakDuality
+weak_duality q u w z g proof point =
+    let h = bound_below_cost q (Some u) w z g proof point in
+    let b = proof.beyond in
+    let l = lt_of_mul_lt {a = u -ℤ pos 1} {b = dot q.cost z} w.den proof.weights.den_least (omega (arith, ints)) in
+    omega (arith, ints)
+
+pub no_point : NoPoint
+no_point q (Some u) w z g proof zero point =
+    let h = bound_below_cost q (Some u) w z g proof point in
+    let b = proof.beyond in
+    let e : w.den *ℤ dot q.cost z ≡ pos 0 = rw zero (zero-*ℤ (dot q.cost z)) in
+    let f : w.den *ℤ (u -ℤ pos 1) ≡ pos 0 = rw zero (zero-*ℤ (u -ℤ pos 1)) in
+    omega (arith, ints)
+no_point q None w z g proof zero point =
+    let h = bound_below_cost q None w z g proof point in
+    let b = proof.beyond in
+    let e : w.den *ℤ dot q.cost z ≡ pos 0 = rw zero (zero-*ℤ (dot q.cost z)) in
+    omega (arith, ints)
+
+pub no_cutoff_no_point : NoCutoffNoPoint
+no_cutoff_no_point q w z g proof point = no_point q None w z g proof (proof.free refl) point

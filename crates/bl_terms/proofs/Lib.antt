@@ -1,0 +1,5 @@
+pub mod PlaceLemmas
+pub mod ResponseLemmas
+pub mod TreeLemmas
+pub mod BoundLemmas
+pub mod FollowerProofLemmas

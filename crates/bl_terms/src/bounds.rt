@@ -1,0 +1,27 @@
+//! Laws of bound proofs.
+
+ghost use Rattle.bl_terms.specs.Bounds.{LeastProduct, NoCutoffNoPoint, NoPoint, WeakDuality};
+
+/// The least product of a range is the least.
+pub fn least_product_is_least()
+    ensures { LeastProduct }
+{
+}
+
+/// Every point of the box that meets the rows costs at least the proved cutoff.
+pub fn weak_duality()
+    ensures { WeakDuality }
+{
+}
+
+/// A proof with the denominator 0 shows that no point of the box meets the rows.
+pub fn no_point()
+    ensures { NoPoint }
+{
+}
+
+/// A proof without a cutoff shows that no point of the box meets the rows.
+pub fn no_cutoff_no_point()
+    ensures { NoCutoffNoPoint }
+{
+}
