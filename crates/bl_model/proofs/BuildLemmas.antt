@@ -1,8 +1,8 @@
 -- What the parts of a program are made of.
-use Rattle.std.proofs.Common.{◌≡◌, ℕ, ◌+◌, ◌<◌, ◌≤◌, Bool, true, false, cond, List, [], ◌∷◌, ◌++◌, append_assoc, ◌∙◌, length, map, get_or, refl, arith, ap}
-use Rattle.std.specs.Prelude.{ℤ, pos, All, ◌==◌, unsigned_abs}
+use Rattle.std.proofs.Common.{◌≡◌, ℕ, ◌+◌, ◌<◌, Bool, true, false, cond, List, [], ◌∷◌, ◌++◌, append_assoc, ◌∙◌, map, get_or, refl, arith, ap}
+use Rattle.std.specs.Prelude.{ℤ, pos, All, ◌==◌}
 use Rattle.std.specs.List.{range_with_len, AllByRecursion}
-use Rattle.std.proofs.lemmas.List.Elements.{recursion_from_All, All-from_recursion, All-head, All-tail, All-cons, All-nil}
+use Rattle.std.proofs.lemmas.List.Elements.{recursion_from_All, All-head, All-tail, All-cons, All-nil}
 use Rattle.std.proofs.lemmas.List.FromFn.{get_or-map-range_with_len}
 use Rattle.bl_whole.specs.Sums.{entry}
 use Rattle.bl_terms.specs.Programs.{Row}

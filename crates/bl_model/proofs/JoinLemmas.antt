@@ -1,13 +1,13 @@
 -- What `build` puts together is the program.
-use Rattle.std.proofs.Common.{◌≡◌, ℕ, ◌<◌, Bool, false, List, [], ◌∷◌, length, map, ◌∙◌, sym, refl, ap, arith}
+use Rattle.std.proofs.Common.{◌≡◌, ℕ, ◌<◌, Bool, false, List, [], ◌∷◌, length, map, ◌∙◌, refl, ap, arith}
 use Rattle.std.specs.Prelude.{ℤ, All, slice_index_or, ◌*ℤ◌}
 use Rattle.std.specs.List.{range_with_len, zip, AllByRecursion}
 use Rattle.std.proofs.lemmas.List.Elements.{recursion_from_All, All-from_recursion}
 use Rattle.std.proofs.lemmas.List.FromFn.{length-map-range_with_len, get_or-map-range_with_len}
-use Rattle.bl_terms.specs.Programs.{Row, Program}
+use Rattle.bl_terms.specs.Programs.{Row}
 use Rattle.bl_model.specs.declared.raw.RawMps.{RawMps}
 use Rattle.bl_model.specs.declared.raw.RawAux.{RawAux}
-use Rattle.bl_model.specs.Build.{is_among, is_link, is_in_lower, link_mark, number_at, rows_of, follower_numbers, places_where, program_of}
+use Rattle.bl_model.specs.Build.{is_among, is_link, link_mark, number_at, rows_of, follower_numbers, places_where, program_of}
 use Rattle.bl_model.proofs.SoundLemmas.{places_where-agree}
 
 -- the marked places, where the marks are a test's answers
@@ -23,7 +23,7 @@ links_where columns rows n follows links follows-is links-is =
     marks_where links (link_mark follows rows) (length follows) links-is
     ∙ ap (places_where (link_mark follows rows)) count
     ∙ places_where-agree (link_mark follows rows) (is_link columns rows) n
-      (λ k below. rw (follows-is, get_or-map-range_with_len (is_among columns) 0 n k k false below (omega arith)) refl)
+    (λ k below. rw (follows-is, get_or-map-range_with_len (is_among columns) 0 n k k false below (omega arith)) refl)
 
 -- the places of pairs are those of the first list
 small_places : (n : ℕ) (ks : List ℕ) (vs : List ℤ) → AllByRecursion (λ k. k < n) ks → AllByRecursion (λ e. e.0 < n) (zip ks vs)
@@ -36,6 +36,6 @@ follower_numbers-within n aux h =
     All-from_recursion (λ e. e.0 < n) (follower_numbers aux) (small_places n aux.columns (map (λ cost. cost *ℤ aux.sense) aux.costs) (recursion_from_All (λ k. k < n) aux.columns h))
 
 -- the parts are those of the program
-pub program_made : (mps : RawMps) (aux : RawAux) (lo hi cost follower_cost : List ℤ) (rows : List Row) (follower links : List ℕ) (sense : ℤ) → lo ≡ map (λ c. c.lo) mps.columns → hi ≡ map (λ c. c.hi) mps.columns → rows ≡ rows_of mps aux.rows → cost ≡ map (λ c. c.cost) mps.columns → follower_cost ≡ map (number_at (follower_numbers aux)) (range_with_len 0 (length mps.columns)) → follower ≡ places_where (is_among aux.columns) (length mps.columns) → links ≡ places_where (is_link aux.columns rows) (length mps.columns) → sense ≡ aux.sense → record {lo = lo; hi = hi; rows = rows; cost = cost; follower_cost = follower_cost; follower = follower; links = links; sense = sense} ≡ program_of mps aux
+pub program_made : (mps : RawMps) (aux : RawAux) (lo hi cost follower_cost : List ℤ) (rows : List Row) (follower links : List ℕ) (sense : ℤ) → lo ≡ map (λ c. c.lo) mps.columns → hi ≡ map (λ c. c.hi) mps.columns → rows ≡ rows_of mps aux.rows → cost ≡ map (λ c. c.cost) mps.columns → follower_cost ≡ map (number_at (follower_numbers aux)) (range_with_len 0 (length mps.columns)) → follower ≡ places_where (is_among aux.columns) (length mps.columns) → links ≡ places_where (is_link aux.columns rows) (length mps.columns) → sense ≡ aux.sense → record { lo = lo; hi = hi; rows = rows; cost = cost; follower_cost = follower_cost; follower = follower; links = links; sense = sense } ≡ program_of mps aux
 unfolding program_of
 program_made mps aux lo hi cost follower_cost rows follower links sense a b c d e f g h = rw (g, a, b, c, d, e, f, h) refl

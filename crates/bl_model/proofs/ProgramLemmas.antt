@@ -1,23 +1,22 @@
 -- The program of two sound texts is sound, and keeps the limits.
-use Rattle.std.proofs.Common.{◌≡◌, ℕ, zero, suc, ◌+◌, ◌*◌, ◌<◌, ◌≤◌, Bool, true, false, cond, ◌||◌, List, [], ◌∷◌, ◌++◌, length, map, get_or, ◌∙◌, sym, refl, ap, subst, inl, inr, ⊎_elim, arith}
-use Rattle.std.specs.Prelude.{ℤ, pos, negsuc, neg_ℤ, ◌*ℤ◌, ◌≤ℤ◌, ◌≢◌, ◌⊎◌, ◌==◌, ◌↔◌, All, Contains, slice_index_or, IsTrue, unsigned_abs, Option, None, Some, IfSome}
+use Rattle.std.proofs.Common.{◌≡◌, ℕ, zero, suc, ◌+◌, ◌*◌, ◌<◌, ◌≤◌, Bool, true, false, cond, ◌||◌, List, [], ◌∷◌, length, map, ◌∙◌, sym, refl, ap, ⊎_elim, arith}
+use Rattle.std.specs.Prelude.{ℤ, pos, neg_ℤ, ◌*ℤ◌, ◌≤ℤ◌, ◌==◌, All, Contains, unsigned_abs, Option, None, Some, IfSome}
 use Rattle.std.specs.List.{range_with_len, AllByRecursion, zip}
 use Rattle.std.proofs.lemmas.Int.{unsigned_abs-mul}
 use Rattle.std.proofs.lemmas.Bool.{false_from_ne_true, cases_lt}
-use Rattle.std.proofs.lemmas.List.{length-map, length-append, get_or-map, get_or_past}
-use Rattle.std.proofs.lemmas.List.Elements.{All-nil, All-cons, All-head, All-tail, All-append, All-get_or, recursion_from_All, All-from_recursion}
+use Rattle.std.proofs.lemmas.List.{length-map, length-append, get_or_past}
+use Rattle.std.proofs.lemmas.List.Elements.{All-nil, All-cons, All-append, All-get_or, recursion_from_All}
 use Rattle.std.proofs.lemmas.List.FromFn.{length-map-range_with_len, get_or-map-range_with_len}
 use Rattle.bl_whole.specs.Sums.{entry}
 use Rattle.bl_whole.specs.Within.{IsWithin}
 use Rattle.bl_whole.proofs.WithinLemmas.{within_zero, within_negation}
-use Rattle.bl_terms.specs.Programs.{Row, Program, row_at, no_row, columns, root, IsInLower, IsLeader, IsLinking, IsProgram, KeepsLimits}
+use Rattle.bl_terms.specs.Programs.{Row, no_row, columns, IsProgram, KeepsLimits}
 use Rattle.bl_model.specs.declared.raw.RawRow.{RawRow}
 use Rattle.bl_model.specs.declared.raw.RawColumn.{RawColumn}
 use Rattle.bl_model.specs.declared.raw.RawMps.{RawMps}
 use Rattle.bl_model.specs.declared.raw.RawAux.{RawAux}
 use Rattle.bl_model.specs.Raw.{IsSmall, IsSide, IsSense, IsRow, IsColumn, FitsModel, KeepsLimits as TextKeepsLimits}
-use Rattle.bl_model.specs.Build.{is_among, is_link, number_at, coefficients, upper_side, lower_side, sides, rows_from, rows_of, follower_numbers, places_where, program_of}
-use Rattle.bl_model.specs.View.{IsModel}
+use Rattle.bl_model.specs.Build.{is_among, is_link, number_at, coefficients, upper_side, lower_side, sides, rows_from, follower_numbers, program_of}
 use Rattle.bl_model.proofs.BuildLemmas.{IsSmall-number_at}
 use Rattle.bl_model.proofs.SoundLemmas.{places_where-rising, passes_from_Contains, Contains-from_passes, Decides-is_among, Decides-is_link}
 
@@ -139,21 +138,22 @@ program-sound mps aux keeps fits =
       follower_rising = places_where-rising follows n;
       follower_below = λ k has. rw count (passes_from_Contains follows n k has).0;
       leader_free = λ k leader.
-        let below : k < n = omega (arith, leader.column, count) in
-        let free : follows k ≡ false = false_from_ne_true (follows k) (λ yes. leader.leads (Contains-from_passes follows n k below yes)) in
-        get_or-map-range_with_len (number_at (follower_numbers aux)) 0 n k k (pos 0) below (omega arith) ∙ absent aux.columns (map (λ v. v *ℤ aux.sense) aux.costs) k free;
+          let below : k < n = omega (arith, leader.column, count) in
+          let free : follows k ≡ false = false_from_ne_true (follows k) (λ yes. leader.leads (Contains-from_passes follows n k below yes)) in
+          get_or-map-range_with_len (number_at (follower_numbers aux)) 0 n k k (pos 0) below (omega arith) ∙ absent aux.columns (map (λ v. v *ℤ aux.sense) aux.costs) k free;
       linking = record {
         rising = places_where-rising (is_link aux.columns p.rows) n;
-        exact = λ k.
-          (λ has.
-            let passed = passes_from_Contains (is_link aux.columns p.rows) n k has in
-            let holds = (Decides-is_link p aux.columns k).0 passed.1 in
-            (record { column = rw count passed.0; leads = λ among. holds.0 ((Decides-is_among aux.columns k).0 (passes_from_Contains follows n k among).1) }, holds.1)
-          , λ is.
-            let below : k < n = omega (arith, is.0.column, count) in
-            Contains-from_passes (is_link aux.columns p.rows) n k below ((Decides-is_link p aux.columns k).1 (λ has. is.0.leads (kept k below has), is.1)))
+        exact = λ k. (
+          λ has.
+              let passed = passes_from_Contains (is_link aux.columns p.rows) n k has in
+              let holds = (Decides-is_link p aux.columns k).0 passed.1 in
+              (record { column = rw count passed.0; leads = λ among. holds.0 ((Decides-is_among aux.columns k).0 (passes_from_Contains follows n k among).1) }, holds.1),
+          λ is.
+              let below : k < n = omega (arith, is.0.column, count) in
+              Contains-from_passes (is_link aux.columns p.rows) n k below ((Decides-is_link p aux.columns k).1 (λ has. is.0.leads (kept k below has), is.1)),
+        );
       };
-      sign = fits.sense
+      sign = fits.sense;
     }
 
 pub program-limits : (mps : RawMps) (aux : RawAux) → TextKeepsLimits mps → FitsModel (length mps.columns) (length mps.rows) aux → KeepsLimits (program_of mps aux)
@@ -174,5 +174,5 @@ program-limits mps aux keeps fits =
       costs = within_columns (λ c. c.cost) m cs (λ c is. is.cost) sound;
       follower_costs = λ k. at_places (number_at (follower_numbers aux)) n k (IsWithin 10000000) (within_zero 10000000) (λ below. record { magnitude = IsSmall-number_at (follower_numbers aux) k costs });
       los = within_columns (λ c. c.lo) m cs (λ c is. is.lo) sound;
-      his = within_columns (λ c. c.hi) m cs (λ c is. is.hi) sound
+      his = within_columns (λ c. c.hi) m cs (λ c is. is.hi) sound;
     }

@@ -1,7 +1,7 @@
 -- The program that two sound texts make is sound, and keeps the limits.
-use Rattle.std.proofs.Common.{◌≡◌, ℕ, zero, suc, ◌+◌, ◌*◌, ◌<◌, ◌≤◌, Bool, true, false, cond, not, ◌&&◌, List, [], ◌∷◌, ◌++◌, length, map, get_or, ◌∙◌, sym, refl, ap, subst, inl, inr, ⊎_elim, arith, add-one, ◌↔◌}
-use Rattle.std.specs.Prelude.{ℤ, pos, negsuc, neg_ℤ, ◌*ℤ◌, ◌≤ℤ◌, ◌≢◌, ◌⊎◌, All, Contains, slice_index, slice_index_or, nat_eq, IsTrue, unsigned_abs, Option, None, Some, IfSome, filter}
-use Rattle.std.specs.List.{range_with_len, list_any, AllByRecursion, zip}
+use Rattle.std.proofs.Common.{◌≡◌, ℕ, zero, suc, ◌+◌, ◌<◌, Bool, true, false, cond, not, ◌&&◌, List, [], ◌∷◌, ◌++◌, length, ◌∙◌, sym, refl, ap, subst, ⊎_elim, arith, add-one}
+use Rattle.std.specs.Prelude.{pos, ◌≢◌, Contains, slice_index_or, nat_eq}
+use Rattle.std.specs.List.{range_with_len}
 use Rattle.std.specs.List.Sorted.{IsStrictlyIncreasing}
 use Rattle.std.specs.Bool.{Decides}
 use Rattle.std.specs.Ordering.{int_eq}
@@ -9,14 +9,13 @@ use Rattle.std.proofs.lemmas.Bool.{cases_lt}
 use Rattle.std.proofs.lemmas.Bool.Decides.{Decides-eqb, Decides-int_eq, Decides-not, Decides-and}
 use Rattle.std.proofs.lemmas.Cmp.{nat_eq_equiv}
 use Rattle.std.proofs.lemmas.Map.Views.{list_any-from_Contains, Contains-from_any}
-use Rattle.std.proofs.lemmas.List.{length-map, length-append, get_or-map, get_or_default}
-use Rattle.std.proofs.lemmas.List.Elements.{Contains-append_cases, Contains-append_left, Contains-append_right, Contains-push_cases, Contains-push, All-get_or, recursion_from_All, All-from_recursion}
-use Rattle.std.proofs.lemmas.List.FromFn.{length-range_with_len, get_or-range_with_len, length-map-range_with_len, get_or-map-range_with_len}
+use Rattle.std.proofs.lemmas.List.{get_or_default}
+use Rattle.std.proofs.lemmas.List.Elements.{Contains-append_cases, Contains-append_left, Contains-append_right, Contains-push_cases, Contains-push}
+use Rattle.std.proofs.lemmas.List.FromFn.{length-range_with_len, get_or-range_with_len}
 use Rattle.std.proofs.lemmas.List.Kept.{IsStrictlyIncreasing-filter}
 use Rattle.std.proofs.lemmas.List.Folds.{Any-from_list_any, list_any_at}
 use Rattle.bl_whole.specs.Sums.{entry}
-use Rattle.bl_whole.specs.Within.{IsWithin}
-use Rattle.bl_terms.specs.Programs.{Row, Program, row_at, no_row, IsInLower, IsLeader, IsLinking}
+use Rattle.bl_terms.specs.Programs.{Row, Program, row_at, no_row, IsInLower}
 use Rattle.bl_model.specs.Build.{is_among, is_in_lower, is_link, places_where}
 use Rattle.bl_model.proofs.PlaceLemmas.{places_where_more}
 
@@ -61,8 +60,8 @@ Contains-from_passes test (suc n) k below passes =
     (⊎_elim
     (λ less. Contains-append_left (places_where test n) (cond (test n) (n ∷ []) []) k (Contains-from_passes test n k less passes))
     (λ more.
-      let same : k ≡ n = omega (arith, below, more) in
-      Contains-append_right (places_where test n) (cond (test n) (n ∷ []) []) k (rw (sym (ap test same) ∙ passes) (rw same (Contains-push [] n))))
+    let same : k ≡ n = omega (arith, below, more) in
+    Contains-append_right (places_where test n) (cond (test n) (n ∷ []) []) k (rw (sym (ap test same) ∙ passes) (rw same (Contains-push [] n))))
     (cases_lt k n))
 
 -- tests that agree below n keep the same places
@@ -88,15 +87,16 @@ stands_decides k r =
 
 -- the test that a row of the follower has a coefficient other than 0 in column k
 pub Decides-is_in_lower : (p : Program) (k : ℕ) → Decides (is_in_lower p.rows k) (IsInLower p k)
-Decides-is_in_lower p k =
-    (λ yes. let some = Any-from_list_any (stands k) p.rows yes in found some.0 some.1 some.2 some.3 some.4
-    , λ at. list_any_at (stands k) p.rows at.0 no_row at.1 ((stands_decides k (row_at p.rows at.0)).1 (at.2, at.3)))
+Decides-is_in_lower p k = (
+  λ yes. let some = Any-from_list_any (stands k) p.rows yes in found some.0 some.1 some.2 some.3 some.4,
+  λ at. list_any_at (stands k) p.rows at.0 no_row at.1 ((stands_decides k (row_at p.rows at.0)).1 (at.2, at.3)),
+)
   where
     found : (i : ℕ) (r : Row) → i < length p.rows → slice_index_or p.rows i r ≡ r → stands k r ≡ true → IsInLower p k
     found i r below is passes =
-      let same : row_at p.rows i ≡ r = get_or_default p.rows i no_row r below ∙ is in
-      let stand = (stands_decides k (row_at p.rows i)).0 (ap (stands k) same ∙ passes) in
-      (i, below, stand.0, stand.1)
+        let same : row_at p.rows i ≡ r = get_or_default p.rows i no_row r below ∙ is in
+        let stand = (stands_decides k (row_at p.rows i)).0 (ap (stands k) same ∙ passes) in
+        (i, below, stand.0, stand.1)
 
 -- a linking column
 pub Decides-is_link : (p : Program) (follower : List ℕ) (k : ℕ) → Decides (is_link follower p.rows k) ((¬ Contains follower k) × IsInLower p k)

@@ -1,5 +1,5 @@
 -- The program that two texts' models make together.
-use Rattle.std.specs.Prelude.{ℕ, ◌+◌, Bool, true, false, ◌==◌, nat_eq, ◌&&◌, not, if◌then◌else◌, List, [], ◌∷◌, ◌++◌, length, map, filter, ℤ, pos, negsuc, neg_ℤ, ◌*ℤ◌, Option, None, Some, slice_index_or}
+use Rattle.std.specs.Prelude.{ℕ, ◌+◌, Bool, false, ◌==◌, nat_eq, ◌&&◌, not, if◌then◌else◌, List, [], ◌∷◌, ◌++◌, length, map, filter, ℤ, pos, neg_ℤ, ◌*ℤ◌, Option, None, Some, slice_index_or}
 use Rattle.std.specs.List.{list_any, zip, range_with_len}
 use Rattle.std.specs.Ordering.{int_eq}
 use Rattle.bl_whole.specs.Sums.{entry}
@@ -80,5 +80,5 @@ program_of mps aux = record {
   follower_cost = map (number_at (follower_numbers aux)) (range_with_len 0 (length mps.columns));
   follower = places_where (is_among aux.columns) (length mps.columns);
   links = places_where (is_link aux.columns (rows_of mps aux.rows)) (length mps.columns);
-  sense = aux.sense
+  sense = aux.sense;
 }

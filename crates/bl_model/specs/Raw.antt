@@ -1,5 +1,5 @@
 -- What a model's two texts say, and the limits that they keep.
-use Rattle.std.specs.Prelude.{◌≡◌, ℕ, ◌+◌, ◌*◌, ◌^◌, ◌<◌, ◌≤◌, ◌⊎◌, List, length, map, ℤ, pos, negsuc, ◌≤ℤ◌, unsigned_abs, ◌≢◌, Option, None, Some, IfSome, IsSome, All, AllPairs}
+use Rattle.std.specs.Prelude.{◌≡◌, ℕ, ◌<◌, ◌≤◌, ◌⊎◌, List, length, map, ℤ, pos, negsuc, ◌≤ℤ◌, unsigned_abs, ◌≢◌, None, Some, IfSome, IsSome, All, AllPairs}
 use Rattle.std.specs.List.Sorted.{IsStrictlyIncreasing}
 use Rattle.bl_model.specs.declared.raw.RawRow.{RawRow}
 use Rattle.bl_model.specs.declared.raw.RawColumn.{RawColumn}

@@ -12,7 +12,7 @@ view_of a = record {
   follower_cost = a.follower_cost.items;
   follower = a.follower.items;
   links = a.links.items;
-  sense = a.sense
+  sense = a.sense;
 }
 
 -- a program whose parts fit together, within the limits

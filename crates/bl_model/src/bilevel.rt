@@ -1,5 +1,6 @@
 //! The bilevel program.
 
+use crate::points::{dot, lies_in, meets_all, meets_marked};
 use crate::row::BRow;
 use std::marker::Model;
 
@@ -19,7 +20,7 @@ pub struct Bilevel {
 }
 
 impl Model for Bilevel {
-    ghost use Rattle.bl_terms.specs.Programs.{Program, program_code, IsProgram, KeepsLimits};
+    ghost use Rattle.bl_terms.specs.Programs.{Program, program_code};
 
     ghost Value = { Program };
 
@@ -30,4 +31,114 @@ impl Model for Bilevel {
     ghost view = { view_of };
 
     ghost invariant = { λ a. IsModel (view_of a) };
+}
+
+impl Bilevel {
+    ghost use Rattle.std.specs.Prelude.{◌≡◌, ◌↔◌, IsTrue};
+    ghost use Rattle.bl_terms.specs.Programs.{In, Rows, Lower, cost_at, follower_at};
+    ghost use Rattle.bl_model.specs.View.{IsModel};
+
+    /// The least number of each column.
+    pub fn lo(&self) -> &[i64]
+        ensures lo { result.now ≡ self.now.lo }
+        ensures model { IsModel self.now }
+    {
+        &self.lo
+    }
+
+    /// The greatest number of each column.
+    pub fn hi(&self) -> &[i64]
+        ensures hi { result.now ≡ self.now.hi }
+        ensures model { IsModel self.now }
+    {
+        &self.hi
+    }
+
+    /// The rows, in the order of the text: of each row there the upper side and then the lower one.
+    pub fn rows(&self) -> &[BRow]
+        ensures rows { result.now ≡ self.now.rows }
+        ensures model { IsModel self.now }
+    {
+        &self.rows
+    }
+
+    /// The leader's cost of each column, to be minimised.
+    pub fn cost(&self) -> &[i64]
+        ensures cost { result.now ≡ self.now.cost }
+        ensures model { IsModel self.now }
+    {
+        &self.cost
+    }
+
+    /// The follower's cost of each column, to be minimised; 0 on the leader's columns.
+    pub fn follower_cost(&self) -> &[i64]
+        ensures follower_cost { result.now ≡ self.now.follower_cost }
+        ensures model { IsModel self.now }
+    {
+        &self.follower_cost
+    }
+
+    /// The follower's columns, in rising order.
+    pub fn follower(&self) -> &[u32]
+        ensures follower { result.now ≡ self.now.follower }
+        ensures model { IsModel self.now }
+    {
+        &self.follower
+    }
+
+    /// The linking columns, in rising order: those of the leader that stand in a row of the
+    /// follower.
+    pub fn links(&self) -> &[u32]
+        ensures links { result.now ≡ self.now.links }
+        ensures model { IsModel self.now }
+    {
+        &self.links
+    }
+
+    /// 1 where the text's follower minimises, and -1 where he maximises.
+    pub fn sense(&self) -> i64
+        ensures sense { result ≡ self.now.sense }
+        ensures model { IsModel self.now }
+    {
+        self.sense
+    }
+
+    /// Whether the point lies in the box: one number for each column, each in its range.
+    pub fn in_box(&self, z: &[i64]) -> bool
+        ensures { IsTrue result ↔ In self.now z.now }
+    {
+        lies_in(&self.lo, &self.hi, z)
+    }
+
+    /// Whether a point of the box meets all rows.
+    pub fn meets_rows(&self, z: &[i64]) -> bool
+        requires { In self.now z.now }
+        ensures { IsTrue result ↔ Rows self.now z.now }
+    {
+        meets_all(&self.rows, z)
+    }
+
+    /// Whether a point of the box meets the follower's rows.
+    pub fn meets_lower(&self, z: &[i64]) -> bool
+        requires { In self.now z.now }
+        ensures { IsTrue result ↔ Lower self.now z.now }
+    {
+        meets_marked(&self.rows, z)
+    }
+
+    /// The leader's cost of a point of the box.
+    pub fn cost_of(&self, z: &[i64]) -> i64
+        requires { In self.now z.now }
+        ensures { result ≡ cost_at self.now z.now }
+    {
+        dot(&self.cost, z)
+    }
+
+    /// The follower's cost of a point of the box, as it is minimised.
+    pub fn follower_of(&self, z: &[i64]) -> i64
+        requires { In self.now z.now }
+        ensures { result ≡ follower_at self.now z.now }
+    {
+        dot(&self.follower_cost, z)
+    }
 }

@@ -30,7 +30,11 @@ fn dense_columns(
 }
 
 // The coefficients of a row, one for each column.
-fn row_coefficients(alloc: Global, dense: &[Listed<i64>], row: usize) -> Result<Vec<i64>, AllocError>
+fn row_coefficients(
+    alloc: Global,
+    dense: &[Listed<i64>],
+    row: usize,
+) -> Result<Vec<i64>, AllocError>
     ensures { IfOk result (λ coef. coef.items ≡ map (λ numbers. entry numbers row) dense.now) }
 {
     let mut coef = Vec::with_capacity(alloc, dense.len())?;

@@ -4,6 +4,7 @@
 mod bilevel;
 mod join;
 mod places;
+mod points;
 mod raw;
 mod row;
 

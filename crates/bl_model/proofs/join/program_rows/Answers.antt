@@ -1,12 +1,12 @@
 use Rattle.std.proofs.Common.{◌≡◌, ◌∙◌, ◌+◌, ◌∷◌, ◌<◌, ap, sym, arith, length, map, List, drop}
-use Rattle.std.specs.Prelude.{All, ℤ}
-use Rattle.std.proofs.lemmas.List.{length-map, drop_more}
+use Rattle.std.specs.Prelude.{ℤ}
+use Rattle.std.proofs.lemmas.List.{drop_more}
 use Rattle.std.proofs.lemmas.List.Elements.{All-same}
 use Rattle.std.proofs.lemmas.List.FromFn.{length-map-range_with_len}
 use Rattle.bl_whole.specs.Sums.{entry}
 use Rattle.bl_model.specs.declared.raw.RawRow.{RawRow}
 use Rattle.bl_model.specs.Raw.{IsSmall}
-use Rattle.bl_model.specs.Build.{coefficients, is_among, dense_column}
+use Rattle.bl_model.specs.Build.{coefficients, is_among}
 use Rattle.bl_model.proofs.BuildLemmas.{coefficients_read, IsSmall-coefficients, rows_from_step, mark_at}
 use Rattle.bl_model.proofs.join.program_rows.Goals as goal
 

@@ -1,0 +1,82 @@
+//! Points against rows and ranges. Sums stay below 2^54: 120 products of two numbers of magnitude
+//! at most 10^7.
+
+ghost use Rattle.std.specs.Prelude.{◌≡◌, ◌↔◌, ◌≤◌, length, IsTrue};
+ghost use Rattle.bl_whole.specs.Sums.{dot};
+ghost use Rattle.bl_whole.specs.Within.{AreWithin};
+ghost use Rattle.bl_terms.specs.Points.{InArea, Meets};
+ghost use Rattle.bl_terms.specs.Programs.{inequality};
+ghost use Rattle.bl_model.specs.Points.{MeetsAll, MeetsMarked, AreShort, IsShort};
+
+use crate::row::BRow;
+use bl_whole::long::plus_product;
+
+/// The sum of the products at each place.
+pub(crate) fn dot(coef: &[i64], z: &[i64]) -> i64
+    requires few { length coef.now ≤ 120 }
+    requires places { length z.now ≡ length coef.now }
+    requires coef { AreWithin 10000000 coef.now }
+    requires z { AreWithin 10000000 z.now }
+    ensures { result ≡ dot coef.now z.now }
+{
+    let mut sum = 0;
+    for k in 0..coef.len() {
+        sum = plus_product(sum, coef[k], z[k]);
+    }
+    sum
+}
+
+/// Whether each number of the point lies in its range.
+pub(crate) fn lies_in(lo: &[i64], hi: &[i64], z: &[i64]) -> bool
+    requires { length hi.now ≡ length lo.now }
+    ensures { IsTrue result ↔ InArea (record { lo = lo.now; hi = hi.now }) z.now }
+{
+    if z.len() != lo.len() {
+        return false;
+    }
+    for k in 0..lo.len() {
+        if z[k] < lo[k] || hi[k] < z[k] {
+            return false;
+        }
+    }
+    true
+}
+
+fn meets(row: &BRow, z: &[i64]) -> bool
+    requires row { IsShort (length z.now) row.now }
+    requires few { length z.now ≤ 120 }
+    requires z { AreWithin 10000000 z.now }
+    ensures { IsTrue result ↔ Meets (inequality row.now) z.now }
+{
+    dot(&row.coef, z) <= row.right
+}
+
+/// Whether the point meets every row.
+pub(crate) fn meets_all(rows: &[BRow], z: &[i64]) -> bool
+    requires rows { AreShort (length z.now) rows.now }
+    requires few { length z.now ≤ 120 }
+    requires z { AreWithin 10000000 z.now }
+    ensures { IsTrue result ↔ MeetsAll rows.now z.now }
+{
+    for row in rows {
+        if !meets(row, z) {
+            return false;
+        }
+    }
+    true
+}
+
+/// Whether the point meets every row that is marked as the follower's.
+pub(crate) fn meets_marked(rows: &[BRow], z: &[i64]) -> bool
+    requires rows { AreShort (length z.now) rows.now }
+    requires few { length z.now ≤ 120 }
+    requires z { AreWithin 10000000 z.now }
+    ensures { IsTrue result ↔ MeetsMarked rows.now z.now }
+{
+    for row in rows {
+        if row.lower && !meets(row, z) {
+            return false;
+        }
+    }
+    true
+}
