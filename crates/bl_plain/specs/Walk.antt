@@ -1,0 +1,48 @@
+-- What a walk over the points of a box finds.
+use Rattle.std.specs.Prelude.{◌≡◌, ◌⊎◌, ◌++◌, ℕ, List, length, ℤ, ◌≤ℤ◌, Option, None, Some, Contains, IfSome, IsSomeAnd, MatchOption, refl}
+use Rattle.std.specs.Int.{int_min}
+use Rattle.std.specs.Coded.{Coded, code_by, coded×, coded_list, coded_ℤ, coded_option}
+use Rattle.bl_whole.specs.Sums.{entry}
+use Rattle.bl_terms.specs.Programs.{Program, In, Rows, Lower, cost_at, follower_at}
+use Rattle.bl_terms.specs.Feasible.{BilevelFeasible}
+
+-- z' differs from z on these columns alone, and there it lies in the ranges
+pub record Varies (p : Program) (columns : List ℕ) (z z' : List ℤ) : Type 0 where
+  pub count : length z' ≡ length z
+  pub others : (k : ℕ) → ¬ Contains columns k → entry z' k ≡ entry z k
+  pub least : (k : ℕ) → Contains columns k → entry p.lo k ≤ℤ entry z' k
+  pub most : (k : ℕ) → Contains columns k → entry z' k ≤ℤ entry p.hi k
+
+-- r is the least follower's cost among the points that vary z on these columns and meet the follower's rows, and None where there is none
+pub record IsLeastCost (p : Program) (columns : List ℕ) (z : List ℤ) (r : Option ℤ) : Type 0 where
+  pub reached : IfSome r (λ least. (z' : List ℤ) × Varies p columns z z' × Lower p z' × (follower_at p z' ≡ least))
+  pub bound : (z' : List ℤ) → Varies p columns z z' → Lower p z' → IsSomeAnd r (λ least. least ≤ℤ follower_at p z')
+
+-- the lesser of two costs, either of which may be missing
+abbrev pub lesser : Option ℤ → Option ℤ → Option ℤ
+lesser None b = b
+lesser (Some a) None = Some a
+lesser (Some a) (Some b) = Some (int_min a b)
+
+-- the best point so far with its cost to the leader, and no cost where there is none
+pub record Best : Type 0 where
+  pub point : List ℤ
+  pub value : Option ℤ
+
+abbrev pub best_code : Coded Best
+best_code =
+    code_by (List ℤ × Option ℤ) (coded× (coded_list coded_ℤ) (coded_option coded_ℤ)) (λ b. (b.point, b.value)) (λ p. record { point = p.0; value = p.1 }) (λ _. refl)
+
+-- new is the best of old and of the points in S, and old where none is better
+pub record Improves (p : Program) (S : List ℤ → Type 0) (old new : Best) : Type 0 where
+  pub source : (new ≡ old) ⊎ (S new.point × (new.value ≡ Some (cost_at p new.point)))
+  pub kept : IfSome old.value (λ before. IsSomeAnd new.value (λ now. now ≤ℤ before))
+  pub bound : (z : List ℤ) → S z → IsSomeAnd new.value (λ now. now ≤ℤ cost_at p z)
+
+-- the points that vary z on these columns, meet all rows and cost the follower this much
+abbrev pub Responses : Program → List ℕ → List ℤ → ℤ → List ℤ → Type 0
+Responses p columns z least z' = Varies p columns z z' × Rows p z' × (follower_at p z' ≡ least)
+
+-- the bilevel feasible points that vary z on these columns of the leader and on those of the follower
+abbrev pub Candidates : Program → List ℕ → List ℤ → List ℤ → Type 0
+Candidates p leaders z z' = Varies p (leaders ++ p.follower) z z' × BilevelFeasible p z'

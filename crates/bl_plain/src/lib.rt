@@ -1,0 +1,8 @@
+//! The plain solver: it walks every point of the box. Other solvers are compared with it.
+#![tactic(auto)]
+
+mod best;
+mod follower;
+mod leader;
+
+pub use best::Best;
