@@ -1,1 +1,3 @@
+pub mod BestLemmas
+pub mod FollowerLemmas
 pub mod WalkLemmas

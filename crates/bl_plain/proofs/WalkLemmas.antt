@@ -74,7 +74,7 @@ In-set p z c x is below low high = record {
   most = λ k at. ⊎_elim (λ e. rw (e, entry-set_same z c x (omega (arith, is.columns, below))) high) (λ apart. rw (entry-set_other z c k x apart) (is.most k at)) (same_or_not k c)
 }
 
-below_or_here : (y x : ℤ) → y <ℤ (x +ℤ pos 1) → (y <ℤ x) ⊎ (y ≡ x)
+pub below_or_here : (y x : ℤ) → y <ℤ (x +ℤ pos 1) → (y <ℤ x) ⊎ (y ≡ x)
 below_or_here y x h = by_lt_z y x (λ less. inl less) (λ ge. inr (omega (arith, ints, h, ge)))
 
 -- ---- a walk over one column's values
@@ -173,4 +173,29 @@ pub IsLeastCost-none : (p : Program) (z : List ℤ) → ¬ Lower p z → IsLeast
 IsLeastCost-none p z fails = record {
   reached = tt;
   bound = λ z' v lower. absurd (fails (let L : List ℤ → Type 0 = Lower p in subst L (Varies-none p z z' v) lower))
+}
+
+pub Varies-nothing : (p : Program) (z : List ℤ) → Varies p [] z z
+Varies-nothing p z = record {
+  count = refl;
+  others = λ k not_there. refl;
+  least = λ k has. absurd (omega (arith, has.1));
+  most = λ k has. absurd (omega (arith, has.1))
+}
+
+-- two points that vary one vary each other
+pub Varies-trans : (p : Program) (cs : List ℕ) (z z₁ z' : List ℤ) → Varies p cs z z₁ → Varies p cs z₁ z' → Varies p cs z z'
+Varies-trans p cs z z₁ z' v w = record {
+  count = w.count ∙ v.count;
+  others = λ k out. w.others k out ∙ v.others k out;
+  least = w.least;
+  most = w.most
+}
+
+pub Varies-back : (p : Program) (cs : List ℕ) (z z₁ z' : List ℤ) → Varies p cs z z₁ → Varies p cs z z' → Varies p cs z₁ z'
+Varies-back p cs z z₁ z' v w = record {
+  count = w.count ∙ sym v.count;
+  others = λ k out. w.others k out ∙ sym (v.others k out);
+  least = w.least;
+  most = w.most
 }

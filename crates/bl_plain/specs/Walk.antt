@@ -1,10 +1,11 @@
 -- What a walk over the points of a box finds.
 use Rattle.std.specs.Prelude.{◌≡◌, ◌⊎◌, ◌++◌, ℕ, List, length, ℤ, ◌≤ℤ◌, Option, None, Some, Contains, IfSome, IsSomeAnd, MatchOption, refl}
 use Rattle.std.specs.Int.{int_min}
+use Rattle.std.specs.Option.{option_map}
 use Rattle.std.specs.Coded.{Coded, code_by, coded×, coded_list, coded_ℤ, coded_option}
 use Rattle.bl_whole.specs.Sums.{entry}
 use Rattle.bl_terms.specs.Programs.{Program, In, Rows, Lower, cost_at, follower_at}
-use Rattle.bl_terms.specs.Feasible.{BilevelFeasible}
+use Rattle.bl_terms.specs.Feasible.{Optimal, Infeasible}
 
 -- z' differs from z on these columns alone, and there it lies in the ranges
 pub record Varies (p : Program) (columns : List ℕ) (z z' : List ℤ) : Type 0 where
@@ -39,10 +40,28 @@ pub record Improves (p : Program) (S : List ℤ → Type 0) (old new : Best) : T
   pub kept : IfSome old.value (λ before. IsSomeAnd new.value (λ now. now ≤ℤ before))
   pub bound : (z : List ℤ) → S z → IsSomeAnd new.value (λ now. now ≤ℤ cost_at p z)
 
--- the points that vary z on these columns, meet all rows and cost the follower this much
-abbrev pub Responses : Program → List ℕ → List ℤ → ℤ → List ℤ → Type 0
-Responses p columns z least z' = Varies p columns z z' × Rows p z' × (follower_at p z' ≡ least)
+-- the points that vary z on these columns and have T
+abbrev pub Among : Program → List ℕ → List ℤ → (List ℤ → Type 0) → List ℤ → Type 0
+Among p columns z T z' = Varies p columns z z' × T z'
 
--- the bilevel feasible points that vary z on these columns of the leader and on those of the follower
-abbrev pub Candidates : Program → List ℕ → List ℤ → List ℤ → Type 0
-Candidates p leaders z z' = Varies p (leaders ++ p.follower) z z' × BilevelFeasible p z'
+-- z meets all rows and costs the follower this much
+pub record AnswersAt (p : Program) (least : ℤ) (z : List ℤ) : Type 0 where
+  pub rows : Rows p z
+  pub cost : follower_at p z ≡ least
+
+-- a point with its cost to the leader
+pub record Valued : Type 0 where
+  pub point : List ℤ
+  pub value : ℤ
+
+abbrev pub valued_code : Coded Valued
+valued_code = code_by (List ℤ × ℤ) (coded× (coded_list coded_ℤ) coded_ℤ) (λ b. (b.point, b.value)) (λ p. record { point = p.0; value = p.1 }) (λ _. refl)
+
+-- the best point, where there is one
+abbrev pub optimum_of : Best → Option Valued
+optimum_of best = option_map (λ value. record { point = best.point; value = value }) best.value
+
+-- the point is optimal at that cost; without one no point is bilevel feasible
+abbrev pub IsAnswer : Program → Option Valued → Type 0
+IsAnswer p None = Infeasible p
+IsAnswer p (Some best) = Optimal p best.point best.value

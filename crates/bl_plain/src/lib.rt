@@ -5,4 +5,6 @@ mod best;
 mod follower;
 mod leader;
 
-pub use best::Best;
+pub use best::Optimum;
+pub use leader::plain_best;
+
