@@ -3,3 +3,5 @@ pub mod ResponseLemmas
 pub mod TreeLemmas
 pub mod BoundLemmas
 pub mod FollowerProofLemmas
+pub mod EveryPointLemmas
+pub mod ExampleLemmas

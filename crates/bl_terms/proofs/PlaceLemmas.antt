@@ -8,12 +8,7 @@ use Rattle.std.specs.List.Sorted.{IsStrictlyIncreasing}
 use Rattle.std.proofs.lemmas.Int.{ints}
 use Rattle.bl_whole.specs.Sums.{entry, sum_below, dot}
 use Rattle.bl_whole.proofs.SumLemmas.{sum_over, sum_below-agree, sum_below-add, sum_below_picked, Contains-here, Contains-there, Contains-cases}
-use Rattle.bl_terms.specs.Points.{values_at}
-
--- k is among ks
-abbrev pub is_among : ℕ → List ℕ → Bool
-is_among k [] = false
-is_among k (j ∷ js) = nat_eq k j || is_among k js
+use Rattle.bl_terms.specs.Points.{values_at, is_among}
 
 pub among_from_Contains : (k : ℕ) (ks : List ℕ) → Contains ks k → is_among k ks ≡ true
 among_from_Contains k [] c = absurd (omega (arith, c.1))

@@ -11,7 +11,7 @@ use Rattle.bl_terms.specs.Points.{Linear, Meets, InArea, values_at}
 use Rattle.bl_terms.specs.Programs.{Program, Row, columns, root, row_at, inequality, In, Rows, Lower, IsLeader, IsLinking, IsProgram, SameLead, link_of, response_of, cost_at, follower_at}
 use Rattle.bl_terms.specs.Feasible.{BilevelFeasible}
 use Rattle.bl_terms.specs.Responses.{InRanges, IsLink, left_side, IsResponse, response_cost, IsBest, Entry, Best, NoResponse, IsTrueEntry, IsFollowerOptimum, OptimumOfLink, EntryIsOptimum, NoResponseNoPoint, EntryLaw}
-use Rattle.bl_terms.proofs.PlaceLemmas.{is_among, among_from_Contains, Contains-from_among, cases_Contains, Contains-at, place_of, dot-values_at, put_at, length-put_at, put_at-other, put_at-same, sum_below_two}
+use Rattle.bl_terms.proofs.PlaceLemmas.{among_from_Contains, Contains-from_among, cases_Contains, Contains-at, place_of, dot-values_at, put_at, length-put_at, put_at-other, put_at-same, sum_below_two}
 
 -- a linking column is the leader's, and no column of the follower
 link_leads : (p : Program) → IsProgram p → (k : ℕ) → Contains p.links k → IsLeader p k

@@ -4,6 +4,7 @@
 #![tactic(auto)]
 
 pub mod bounds;
+pub mod examples;
 pub mod follower_proofs;
 pub mod responses;
 pub mod trees;
