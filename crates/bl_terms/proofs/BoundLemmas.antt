@@ -8,7 +8,8 @@ use Rattle.bl_whole.specs.Sums.{entry, sum_below, dot}
 use Rattle.bl_whole.proofs.Products.{*ℤ_assoc, +ℤ-*ℤ, mul_le_left, mul_le_left_neg, lt_of_mul_lt}
 use Rattle.bl_whole.proofs.SumLemmas.{sum_below-agree, sum_below-add, sum_below-scale, sum_below-exchange, sum_below_monotone}
 use Rattle.bl_terms.specs.Points.{Area, IsArea, InArea, Linear, Meets}
-use Rattle.bl_terms.specs.Bounds.{Problem, linear_at, IsPoint, IsProblem, Weights, weight_at, least_product, least_term, right_sum, bound_of, mark_of, AreWeights, Proves, LeastProduct, WeakDuality, NoPoint, NoCutoffNoPoint}
+use Rattle.bl_terms.specs.Bounds.{Problem, linear_at, IsPoint, IsProblem, Weights, weight_at, least_product, least_term, right_sum, bound_of, mark_of, AreWeights, Proves, LeastProduct, WeakDuality, NoPoint, NoCutoffNoPoint, over, ProvesByParts, TreeOfProofs, TreeOfRefusals}
+use Rattle.bl_terms.proofs.TreeLemmas.{tree_shows}
 
 least_of_range : (a lo hi x : ℤ) → lo ≤ℤ x → x ≤ℤ hi → least_product a lo hi ≤ℤ (a *ℤ x)
 least_of_range a lo hi x low high = by (int_lt a (pos 0)) refl
@@ -97,3 +98,21 @@ no_point q None w z g proof zero point =
 
 pub no_cutoff_no_point : NoCutoffNoPoint
 no_cutoff_no_point q w z g proof point = no_point q None w z g proof (proof.free refl) point
+
+-- a leaf's box that has a point has as many columns as the whole box
+over_problem : (q : Problem) (a : Area) (z : List ℤ) → IsProblem q → IsArea a → InArea a z → InArea q.area z → IsProblem (over q a)
+over_problem q a z g area inside whole =
+    let n : length q.area.lo ≡ length a.lo = sym whole.columns ∙ inside.columns in
+    record { box = area; cost_columns = g.cost_columns ∙ n; row_columns = λ i b. g.row_columns i b ∙ n }
+
+pub tree_of_proofs : TreeOfProofs
+tree_of_proofs q u nodes z g tree point =
+    tree_shows (λ a w. Proves (over q a) (Some u) w) (λ x. IsPoint q x → u ≤ℤ dot q.cost x)
+    (λ a w x area closed inside p. weak_duality (over q a) u w x (over_problem q a x g area inside p.inside) closed (record { inside = inside; rows = p.rows }))
+    nodes q.area g.box tree z point.inside point
+
+pub tree_of_refusals : TreeOfRefusals
+tree_of_refusals q nodes z g tree point =
+    tree_shows (λ a w. Proves (over q a) None w) (λ x. IsPoint q x → ⊥)
+    (λ a w x area closed inside p. no_cutoff_no_point (over q a) w x (over_problem q a x g area inside p.inside) closed (record { inside = inside; rows = p.rows }))
+    nodes q.area g.box tree z point.inside point

@@ -1,4 +1,5 @@
 pub mod PlaceLemmas
+pub mod ProgramLemmas
 pub mod ResponseLemmas
 pub mod TreeLemmas
 pub mod BoundLemmas

@@ -159,7 +159,7 @@ one_leaf (Split j v ∷ ns) (a ∷ stack) z sides covers one i i' b b' h h' =
     one_leaf ns (low_half a j v ∷ high_half a j v ∷ stack) z (halves_have_sides a j v stack sides) covers.1
     (halves_apart a j v stack z covers.0 sides.0 one) i i' b b' h h'
 
-pub each_point_in_one_leaf : EachPointInOneLeaf
+pub each_point_in_one_leaf : {L : Type 0} → EachPointInOneLeaf L
 each_point_in_one_leaf nodes a z tree e inside =
     let r = some_leaf nodes (a ∷ []) z (e, tt) tree 0 (omega arith) inside in
     let one = one_leaf nodes (a ∷ []) z (e, tt) tree
@@ -206,7 +206,7 @@ leaves_are_areas (Leaf x ∷ ns) (a ∷ stack) g covers (suc i) b = leaves_are_a
 leaves_are_areas (Split j v ∷ ns) (a ∷ stack) g covers i b =
     leaves_are_areas ns (low_half a j v ∷ high_half a j v ∷ stack) (low_area a j v covers.0 g.0, (high_area a j v covers.0 g.0, g.1)) covers.1 i b
 
-pub leaves_are_parts : LeavesAreParts
+pub leaves_are_parts : {L : Type 0} → LeavesAreParts L
 leaves_are_parts nodes a i tree g b =
     (leaves_are_areas nodes (a ∷ []) (g, tt) tree i b,
     λ z inside. only (some_box nodes (a ∷ []) z (g.sides, tt) tree i b inside))
@@ -332,6 +332,6 @@ nodes_by_leaves (Split j v ∷ ns) [] covers = absurd covers
 nodes_by_leaves (Leaf x ∷ ns) (a ∷ stack) covers = let i = nodes_by_leaves ns stack covers.1 in omega arith
 nodes_by_leaves (Split j v ∷ ns) (a ∷ stack) covers = let i = nodes_by_leaves ns (low_half a j v ∷ high_half a j v ∷ stack) covers.1 in omega arith
 
-pub leaves_at_most_points : LeavesAtMostPoints
+pub leaves_at_most_points : {L : Type 0} → LeavesAtMostPoints L
 leaves_at_most_points nodes a tree g =
     (let h = leaves_below_points nodes (a ∷ []) (g, tt) tree in omega arith, let e = nodes_by_leaves nodes (a ∷ []) tree in omega arith)

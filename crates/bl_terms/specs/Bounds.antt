@@ -3,6 +3,7 @@ use Rattle.std.specs.Prelude.{ℕ, ℤ, Bool, pos, negsuc, ◌≡◌, ◌+◌, �
 use Rattle.bl_whole.specs.Sums.{entry, sum_below, dot}
 use Rattle.bl_whole.specs.Within.{IsWithin, AreWithin}
 use Rattle.bl_terms.specs.Points.{Area, IsArea, InArea, Linear, Meets}
+use Rattle.bl_terms.specs.Trees.{Node, Covers}
 
 -- a problem: rows coef · z <= right, a cost to be minimised, and a box
 pub record Problem : Type 0 where
@@ -84,6 +85,14 @@ pub record Proves (q : Problem) (u : Option ℤ) (w : Weights) : Type 0 where
   pub free : u ≡ None → w.den ≡ pos 0
   pub beyond : mark_of u w <ℤ bound_of q w
 
+-- the problem over another box
+abbrev pub over : Problem → Area → Problem
+over q a = record q { area = a }
+
+-- a tree over the problem's box, each leaf of which has a proof over its box
+abbrev pub ProvesByParts : Problem → Option ℤ → List (Node Weights) → Type 0
+ProvesByParts q u nodes = Covers (λ a w. Proves (over q a) u w) nodes (q.area ∷ [])
+
 -- THE LAWS
 
 -- the least product is at most every product of the range, and a number of the range reaches it
@@ -103,3 +112,11 @@ NoPoint = (q : Problem) (u : Option ℤ) (w : Weights) (z : List ℤ) → IsProb
 -- so does any proof without a cutoff
 abbrev pub NoCutoffNoPoint : Type 0
 NoCutoffNoPoint = (q : Problem) (w : Weights) (z : List ℤ) → IsProblem q → Proves q None w → ¬ IsPoint q z
+
+-- a tree of proofs bounds its box: every point of it that meets the rows costs at least the cutoff
+abbrev pub TreeOfProofs : Type 0
+TreeOfProofs = (q : Problem) (u : ℤ) (nodes : List (Node Weights)) (z : List ℤ) → IsProblem q → ProvesByParts q (Some u) nodes → IsPoint q z → u ≤ℤ dot q.cost z
+
+-- and a tree of proofs without a cutoff shows that no point of the box meets the rows
+abbrev pub TreeOfRefusals : Type 0
+TreeOfRefusals = (q : Problem) (nodes : List (Node Weights)) (z : List ℤ) → IsProblem q → ProvesByParts q None nodes → ¬ IsPoint q z

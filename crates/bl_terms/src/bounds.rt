@@ -1,6 +1,6 @@
 //! Laws of bound proofs.
 
-ghost use Rattle.bl_terms.specs.Bounds.{LeastProduct, NoCutoffNoPoint, NoPoint, WeakDuality};
+ghost use Rattle.bl_terms.specs.Bounds.{LeastProduct, NoCutoffNoPoint, NoPoint, TreeOfProofs, TreeOfRefusals, WeakDuality};
 
 /// The least product of a range is the least.
 pub fn least_product_is_least()
@@ -23,5 +23,17 @@ pub fn no_point()
 /// A proof without a cutoff shows that no point of the box meets the rows.
 pub fn no_cutoff_no_point()
     ensures { NoCutoffNoPoint }
+{
+}
+
+/// A tree of proofs bounds its box.
+pub fn tree_of_proofs()
+    ensures { TreeOfProofs }
+{
+}
+
+/// A tree of proofs without a cutoff shows that no point of its box meets the rows.
+pub fn tree_of_refusals()
+    ensures { TreeOfRefusals }
 {
 }

@@ -6,5 +6,6 @@
 pub mod bounds;
 pub mod examples;
 pub mod follower_proofs;
+pub mod programs;
 pub mod responses;
 pub mod trees;
