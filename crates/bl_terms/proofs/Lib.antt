@@ -5,4 +5,5 @@ pub mod TreeLemmas
 pub mod BoundLemmas
 pub mod FollowerProofLemmas
 pub mod EveryPointLemmas
+pub mod ExampleTests
 pub mod ExampleLemmas

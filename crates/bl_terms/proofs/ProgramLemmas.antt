@@ -1,17 +1,17 @@
 -- The linking columns, computed.
-use Rattle.std.proofs.Common.{◌≡◌, ◌≢◌, ℕ, zero, suc, ◌+◌, ◌<◌, ◌≤◌, refl, sym, ◌∙◌, ap, subst, arith, Bool, true, false, not, cond, ◌&&◌, ◌||◌, List, [], ◌∷◌, ◌++◌, length, ◌⊎◌, inl, inr}
-use Rattle.std.specs.Prelude.{ℤ, pos, slice_index, Contains, IsTrue, ◌↔◌}
+use Rattle.std.proofs.Common.{◌≡◌, ◌≢◌, ℕ, zero, suc, ◌+◌, ◌<◌, refl, sym, ◌∙◌, subst, arith, Bool, true, false, not, cond, ◌&&◌, List, [], ◌∷◌, ◌++◌, length, ◌⊎◌, inl, inr}
+use Rattle.std.specs.Prelude.{pos, slice_index, Contains, IsTrue}
 use Rattle.std.specs.Bool.{Decides}
 use Rattle.std.specs.List.Sorted.{IsStrictlyIncreasing}
 use Rattle.std.specs.Ordering.{int_eq}
-use Rattle.std.proofs.lemmas.Bool.{cases_Bool, cases_lt, cases_order, true≢false}
+use Rattle.std.proofs.lemmas.Bool.{cases_lt, cases_order, true≢false}
 use Rattle.std.proofs.lemmas.Bool.Decides.{Decides-and, Decides-or, Decides-not, Decides-like, Decides-int_eq}
 use Rattle.std.proofs.lemmas.List.{get_or_append_left, get_or_push, length-append}
 use Rattle.std.proofs.lemmas.List.Elements.{Contains-append_left, Contains-push, Contains-push_cases}
 use Rattle.bl_whole.specs.Sums.{entry}
 use Rattle.bl_whole.proofs.SumLemmas.{rising_pairs, Contains-here, Contains-there, Contains-cases}
 use Rattle.bl_terms.specs.Points.{is_among}
-use Rattle.bl_terms.specs.Programs.{Program, Row, columns, row_at, IsLeader, IsInLower, IsLinking, is_in_lower, is_linking, linking_below, LinkingComputed}
+use Rattle.bl_terms.specs.Programs.{Program, Row, columns, row_at, IsLeader, IsInLower, is_in_lower, is_linking, linking_below, LinkingComputed}
 use Rattle.bl_terms.proofs.PlaceLemmas.{among_from_Contains, Contains-from_among, Contains-at, place_of}
 
 Decides-among : (k : ℕ) (ks : List ℕ) → Decides (is_among k ks) (Contains ks k)
@@ -31,22 +31,22 @@ is_in_lower_decides rows (suc n) k =
     (λ h. elim h [ inl r ↦ (r.0, omega (arith, r.1), r.2, r.3) | inr r ↦ (n, omega arith, r.0, r.1) ])
     (λ r. last r)
     (Decides-or (is_in_lower rows n k) ((row_at rows n).lower && not (int_eq (entry (row_at rows n).coef k) (pos 0))) (is_in_lower_decides rows n k)
-        (Decides-and (row_at rows n).lower (not (int_eq (entry (row_at rows n).coef k) (pos 0))) (Decides-self (row_at rows n).lower)
-            (Decides-not (int_eq (entry (row_at rows n).coef k) (pos 0)) (Decides-int_eq (entry (row_at rows n).coef k) (pos 0)))))
+    (Decides-and (row_at rows n).lower (not (int_eq (entry (row_at rows n).coef k) (pos 0))) (Decides-self (row_at rows n).lower)
+    (Decides-not (int_eq (entry (row_at rows n).coef k) (pos 0)) (Decides-int_eq (entry (row_at rows n).coef k) (pos 0)))))
   where
     last : IsInFirst rows (suc n) k → IsInFirst rows n k ⊎ (IsTrue (row_at rows n).lower × (entry (row_at rows n).coef k ≢ pos 0))
     last (i, b, low, ne) =
         elim (cases_lt i n) [
-            inl c ↦ inl (i, c, low, ne)
+          | inl c ↦ inl (i, c, low, ne)
           | inr c ↦ let e : i ≡ n = omega arith in
-                inr (let P : ℕ → Type 0 = λ x. IsTrue (row_at rows x).lower × (entry (row_at rows x).coef k ≢ pos 0) in subst P e (low, ne))
+              inr (let P : ℕ → Type 0 = λ x. IsTrue (row_at rows x).lower × (entry (row_at rows x).coef k ≢ pos 0) in subst P e (low, ne))
         ]
 
 is_linking_decides : (p : Program) (k : ℕ) → k < columns p → Decides (is_linking p k) (IsLeader p k × IsInLower p k)
 is_linking_decides p k b =
     Decides-like (is_linking p k) (λ h. (record { column = b; leads = h.0 }, h.1)) (λ h. (h.0.leads, h.1))
     (Decides-and (not (is_among k p.follower)) (is_in_lower p.rows (length p.rows) k) (Decides-not (is_among k p.follower) (Decides-among k p.follower))
-        (is_in_lower_decides p.rows (length p.rows) k))
+    (is_in_lower_decides p.rows (length p.rows) k))
 
 -- the members of `linking_below`
 member_below : (p : Program) (n k : ℕ) → Contains (linking_below p n) k → (k < n) × (is_linking p k ≡ true)
@@ -57,7 +57,7 @@ member_below p (suc n) k m = by (λ h. member_below p n k h) (is_linking p n) re
         → Contains (cond t (linking_below p n ++ n ∷ []) (linking_below p n)) k → (k < suc n) × (is_linking p k ≡ true)
     by rest true e h =
         elim (Contains-push_cases (linking_below p n) n k h) [
-            inl c ↦ let r = rest c in (omega (arith, r.0), r.1)
+          | inl c ↦ let r = rest c in (omega (arith, r.0), r.1)
           | inr same ↦ (omega arith, subst (λ x. is_linking p x ≡ true) same e)
         ]
     by rest false e h = let r = rest h in (omega (arith, r.0), r.1)
@@ -69,12 +69,12 @@ below_member p (suc n) k b t = by (λ c. below_member p n k c t) (is_linking p n
     by : (k < n → Contains (linking_below p n) k) → (u : Bool) → is_linking p n ≡ u → Contains (cond u (linking_below p n ++ n ∷ []) (linking_below p n)) k
     by rest true e =
         elim (cases_lt k n) [
-            inl c ↦ Contains-append_left (linking_below p n) (n ∷ []) k (rest c)
+          | inl c ↦ Contains-append_left (linking_below p n) (n ∷ []) k (rest c)
           | inr c ↦ let same : n ≡ k = omega arith in subst (λ x. Contains (linking_below p n ++ n ∷ []) x) same (Contains-push (linking_below p n) n)
         ]
     by rest false e =
         elim (cases_lt k n) [
-            inl c ↦ rest c
+          | inl c ↦ rest c
           | inr c ↦ let same : n ≡ k = omega arith in absurd (true≢false (sym t ∙ subst (λ x. is_linking p x ≡ false) same e))
         ]
 
@@ -83,10 +83,10 @@ rising_push : (xs : List ℕ) (n : ℕ) → IsStrictlyIncreasing xs → ((k : �
 rising_push xs n rise below k b =
     let l = length-append xs (n ∷ []) in
     elim (cases_lt (k + 1) (length xs)) [
-        inl c ↦ rw (get_or_append_left xs (n ∷ []) 0 k (omega arith), get_or_append_left xs (n ∷ []) 0 (k + 1) c) (rise k c)
+      | inl c ↦ rw (get_or_append_left xs (n ∷ []) 0 k (omega arith), get_or_append_left xs (n ∷ []) 0 (k + 1) c) (rise k c)
       | inr c ↦
-            rw (get_or_append_left xs (n ∷ []) 0 k (omega arith), get_or_push xs n 0 (k + 1) (omega arith))
-            (below (slice_index xs k) (Contains-at xs k (omega arith)))
+          rw (get_or_append_left xs (n ∷ []) 0 k (omega arith), get_or_push xs n 0 (k + 1) (omega arith))
+          (below (slice_index xs k) (Contains-at xs k (omega arith)))
     ]
 
 linking_rises : (p : Program) (n : ℕ) → IsStrictlyIncreasing (linking_below p n)
@@ -109,29 +109,29 @@ same_from_members [] (y ∷ ys) r s f g = let c = (g y (Contains-here y ys)).1 i
 same_from_members (x ∷ xs) [] r s f g = let c = (f x (Contains-here x xs)).1 in absurd (omega arith)
 same_from_members (x ∷ xs) (y ∷ ys) r s f g =
     let heads : x ≡ y =
-        elim (cases_order x y) [
-            inl e ↦ e
-          | inr o ↦ elim o [
-                inl c ↦ elim (Contains-cases y x ys (f x (Contains-here x xs))) [ inl e ↦ e | inr m ↦ let h = head_below y ys s x m in absurd (omega arith) ]
-              | inr c ↦ elim (Contains-cases x y xs (g y (Contains-here y ys))) [ inl e ↦ sym e | inr m ↦ let h = head_below x xs r y m in absurd (omega arith) ]
-            ]
-        ] in
+    elim (cases_order x y) [
+      | inl e ↦ e
+      | inr o ↦ elim o [
+        | inl c ↦ elim (Contains-cases y x ys (f x (Contains-here x xs))) [ inl e ↦ e | inr m ↦ let h = head_below y ys s x m in absurd (omega arith) ]
+        | inr c ↦ elim (Contains-cases x y xs (g y (Contains-here y ys))) [ inl e ↦ sym e | inr m ↦ let h = head_below x xs r y m in absurd (omega arith) ]
+      ]
+    ] in
     let tails : xs ≡ ys =
-        same_from_members xs ys (λ i j a b. r (suc i) (suc j) (omega arith) (omega arith)) (λ i j a b. s (suc i) (suc j) (omega arith) (omega arith))
-        (λ k m. elim (Contains-cases y k ys (f k (Contains-there x k xs m))) [ inl e ↦ let h = head_below x xs r k m in absurd (omega arith) | inr c ↦ c ])
-        (λ k m. elim (Contains-cases x k xs (g k (Contains-there y k ys m))) [ inl e ↦ let h = head_below y ys s k m in absurd (omega arith) | inr c ↦ c ]) in
+    same_from_members xs ys (λ i j a b. r (suc i) (suc j) (omega arith) (omega arith)) (λ i j a b. s (suc i) (suc j) (omega arith) (omega arith))
+    (λ k m. elim (Contains-cases y k ys (f k (Contains-there x k xs m))) [ inl e ↦ let h = head_below x xs r k m in absurd (omega arith) | inr c ↦ c ])
+    (λ k m. elim (Contains-cases x k xs (g k (Contains-there y k ys m))) [ inl e ↦ let h = head_below y ys s k m in absurd (omega arith) | inr c ↦ c ]) in
     cc
 
 pub linking_computed : LinkingComputed
 linking_computed p = (
-    λ l. same_from_members p.links (linking_below p (columns p)) (rising_pairs p.links l.rising) (rising_pairs (linking_below p (columns p)) (linking_rises p (columns p)))
-        (λ k m. let h = (l.exact k).0 m in below_member p (columns p) k h.0.column ((is_linking_decides p k h.0.column).1 h))
-        (λ k m. let h = member_below p (columns p) k m in (l.exact k).1 ((is_linking_decides p k h.0).0 h.1)),
-    λ e. record {
-        rising = subst (λ x. IsStrictlyIncreasing x) (sym e) (linking_rises p (columns p));
-        exact = λ k. (
-            λ m. let h = member_below p (columns p) k (subst (λ x. Contains x k) e m) in (is_linking_decides p k h.0).0 h.1,
-            λ h. subst (λ x. Contains x k) (sym e) (below_member p (columns p) k h.0.column ((is_linking_decides p k h.0.column).1 h))
-        );
-      }
-  )
+  λ l. same_from_members p.links (linking_below p (columns p)) (rising_pairs p.links l.rising) (rising_pairs (linking_below p (columns p)) (linking_rises p (columns p)))
+      (λ k m. let h = (l.exact k).0 m in below_member p (columns p) k h.0.column ((is_linking_decides p k h.0.column).1 h))
+      (λ k m. let h = member_below p (columns p) k m in (l.exact k).1 ((is_linking_decides p k h.0).0 h.1)),
+  λ e. record {
+    rising = subst (λ x. IsStrictlyIncreasing x) (sym e) (linking_rises p (columns p));
+    exact = λ k. (
+      λ m. let h = member_below p (columns p) k (subst (λ x. Contains x k) e m) in (is_linking_decides p k h.0).0 h.1,
+      λ h. subst (λ x. Contains x k) (sym e) (below_member p (columns p) k h.0.column ((is_linking_decides p k h.0.column).1 h)),
+    );
+  },
+)

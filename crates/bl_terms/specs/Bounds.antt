@@ -1,5 +1,5 @@
 -- Proofs that the points of a box cost at least so much, or that no point of it meets the rows: weak duality over a box.
-use Rattle.std.specs.Prelude.{ℕ, ℤ, Bool, pos, negsuc, ◌≡◌, ◌+◌, ◌^◌, ◌<◌, ◌≤◌, ◌+ℤ◌, ◌-ℤ◌, ◌*ℤ◌, ◌≤ℤ◌, ◌<ℤ◌, List, [], ◌∷◌, length, slice_index_or, Option, Some, None, if◌then◌else◌, int_lt}
+use Rattle.std.specs.Prelude.{ℕ, ℤ, pos, ◌≡◌, ◌^◌, ◌<◌, ◌≤◌, ◌+ℤ◌, ◌-ℤ◌, ◌*ℤ◌, ◌≤ℤ◌, ◌<ℤ◌, List, [], ◌∷◌, length, slice_index_or, Option, Some, None, if◌then◌else◌, int_lt}
 use Rattle.bl_whole.specs.Sums.{entry, sum_below, dot}
 use Rattle.bl_whole.specs.Within.{IsWithin, AreWithin}
 use Rattle.bl_terms.specs.Points.{Area, IsArea, InArea, Linear, Meets}

@@ -1,5 +1,5 @@
 -- Proofs of a link's entry: a tree over the box of the follower's columns whose leaves are closed by bound proofs.
-use Rattle.std.specs.Prelude.{ℕ, ℤ, ◌≡◌, ◌<◌, ◌≤◌, ◌-ℤ◌, ◌≤ℤ◌, ◌↔◌, List, [], ◌∷◌, length, Option, Some, None, if◌then◌else◌}
+use Rattle.std.specs.Prelude.{ℕ, ℤ, ◌≡◌, ◌<◌, ◌-ℤ◌, ◌≤ℤ◌, ◌↔◌, List, [], ◌∷◌, length, Option, Some, None, if◌then◌else◌}
 use Rattle.bl_whole.specs.Sums.{entry, dot}
 use Rattle.bl_terms.specs.Points.{Area, InArea, Linear, values_at}
 use Rattle.bl_terms.specs.Programs.{Program, Row, IsProgram}

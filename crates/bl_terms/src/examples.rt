@@ -6,11 +6,9 @@ ghost use Rattle.bl_terms.specs.Examples.{WorkedExamples};
 /// The tests that try every point decide the definitions.
 pub fn tests_decide()
     ensures { TestsDecide }
-{
-}
+{}
 
 /// The definitions give the answers of the worked examples.
 pub fn worked_examples()
     ensures { WorkedExamples }
-{
-}
+{}
