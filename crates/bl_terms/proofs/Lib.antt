@@ -3,6 +3,7 @@ pub mod ProgramLemmas
 pub mod ResponseLemmas
 pub mod TreeLemmas
 pub mod BoundLemmas
+pub mod BoundSizes
 pub mod FollowerProofLemmas
 pub mod EveryPointLemmas
 pub mod ExampleTests

@@ -6,8 +6,8 @@ use Rattle.std.proofs.lemmas.Bool.Decides.{nat_tests}
 use Rattle.std.proofs.lemmas.List.{length-map, get_or-map, get_or-set_same, get_or-set_other, length-set, get_or_default}
 use Rattle.std.specs.List.Sorted.{IsStrictlyIncreasing}
 use Rattle.std.proofs.lemmas.Int.{ints}
-use Rattle.bl_whole.specs.Sums.{entry, sum_below, dot}
-use Rattle.bl_whole.proofs.SumLemmas.{sum_over, sum_below-agree, sum_below-add, sum_below_picked, Contains-here, Contains-there, Contains-cases}
+use Rattle.bl_whole.specs.Sums.{entry, sum_below, sum_over, dot}
+use Rattle.bl_whole.proofs.SumLemmas.{sum_below-agree, sum_below-add, sum_below_picked, Contains-here, Contains-there, Contains-cases}
 use Rattle.bl_terms.specs.Points.{values_at, is_among}
 
 pub among_from_Contains : (k : ℕ) (ks : List ℕ) → Contains ks k → is_among k ks ≡ true

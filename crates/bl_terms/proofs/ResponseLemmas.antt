@@ -4,8 +4,8 @@ use Rattle.std.specs.Prelude.{ℤ, pos, negsuc, ◌+ℤ◌, ◌*ℤ◌, ◌≤�
 use Rattle.std.proofs.Math.IntN.{zero-*ℤ}
 use Rattle.std.proofs.lemmas.Int.{ints}
 use Rattle.std.proofs.lemmas.List.{length-map, get_or-map, ext_get_or}
-use Rattle.bl_whole.specs.Sums.{entry, dot}
-use Rattle.bl_whole.proofs.SumLemmas.{sum_over, sum_below_picked, rising_pairs}
+use Rattle.bl_whole.specs.Sums.{entry, sum_over, dot}
+use Rattle.bl_whole.proofs.SumLemmas.{sum_below_picked, rising_pairs}
 use Rattle.bl_terms.specs.Points.{values_at}
 use Rattle.bl_terms.specs.Programs.{Program, columns, row_at, In, Rows, Lower, IsLeader, IsProgram, SameLead, link_of, response_of, follower_at}
 use Rattle.bl_terms.specs.Feasible.{BilevelFeasible}

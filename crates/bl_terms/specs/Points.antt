@@ -1,4 +1,4 @@
--- Points and boxes: a point is a list of whole numbers, one for each column.
+-- Points and boxes: a point is a list of whole numbers, one for each column of an integer program.
 use Rattle.std.specs.Prelude.{ℕ, ℤ, Bool, false, ◌||◌, [], ◌∷◌, nat_eq, ◌≡◌, ◌<◌, ◌≤ℤ◌, List, length, map, refl}
 use Rattle.std.specs.Coded.{Coded, code_by, coded×, coded_list, coded_ℤ}
 use Rattle.bl_whole.specs.Sums.{entry, dot}

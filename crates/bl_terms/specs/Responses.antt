@@ -1,4 +1,5 @@
--- What the follower can answer to the values of the linking columns, and what is true of its least cost.
+-- What the follower can answer to the values of the linking columns, and what is true of its least cost: the second-stage problem of
+-- DeNegre and Ralphs (2009), over the linking columns of Tahernejad, Ralphs and DeNegre (2020).
 use Rattle.std.specs.Prelude.{ℕ, ℤ, ◌≡◌, ◌<◌, ◌+ℤ◌, ◌≤ℤ◌, ◌↔◌, List, length, slice_index, IsTrue}
 use Rattle.bl_whole.specs.Sums.{entry, dot}
 use Rattle.bl_terms.specs.Points.{values_at}

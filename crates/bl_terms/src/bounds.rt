@@ -1,6 +1,6 @@
 //! Laws of bound proofs.
 
-ghost use Rattle.bl_terms.specs.Bounds.{LeastProduct, NoCutoffNoPoint, NoPoint, TreeOfProofs, TreeOfRefusals, WeakDuality};
+ghost use Rattle.bl_terms.specs.Bounds.{BoundSumsFit, LeastProduct, NoCutoffNoPoint, NoPoint, TreeOfProofs, TreeOfRefusals, WeakDuality};
 
 /// The least product of a range is the least.
 pub fn least_product_is_least()
@@ -30,4 +30,9 @@ pub fn tree_of_proofs()
 /// A tree of proofs without a cutoff shows that no point of its box meets the rows.
 pub fn tree_of_refusals()
     ensures { TreeOfRefusals }
+{}
+
+/// Every sum of a bound proof fits 128 bits where the problem fits.
+pub fn bound_sums_fit()
+    ensures { BoundSumsFit }
 {}
