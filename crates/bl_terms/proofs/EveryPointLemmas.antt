@@ -1,6 +1,6 @@
 -- The tests of `EveryPoint` decide the definitions.
 use Rattle.std.proofs.Common.{◌≡◌, ℕ, zero, suc, ◌<◌, refl, sym, ◌∙◌, ap, subst, arith, Bool, true, false, not, cond, ◌&&◌, ◌||◌, List, [], ◌∷◌, length, ◌⊎◌, inl, inr}
-use Rattle.std.specs.Prelude.{ℤ, pos, negsuc, ◌+ℤ◌, ◌-ℤ◌, ◌≤ℤ◌, ◌<ℤ◌, int_le, int_lt, nat_eq, unsigned_abs, IsTrue}
+use Rattle.std.specs.Prelude.{ℤ, pos, ◌+ℤ◌, ◌-ℤ◌, ◌≤ℤ◌, ◌<ℤ◌, int_le, int_lt, nat_eq, unsigned_abs, IsTrue}
 use Rattle.std.specs.Bool.{Decides}
 use Rattle.std.specs.Ordering.{int_eq}
 use Rattle.std.proofs.lemmas.Int.{ints, by_lt_z}
@@ -12,18 +12,8 @@ use Rattle.bl_terms.specs.Points.{Meets, is_among}
 use Rattle.bl_terms.specs.Programs.{Program, columns, row_at, inequality, In, Rows, Lower, IsLeader, SameLead, cost_at, follower_at}
 use Rattle.bl_terms.specs.Feasible.{BilevelFeasible, Optimal, IsOnlyOptimum, Infeasible}
 use Rattle.bl_terms.specs.EveryPoint.{all_numbers, all_below, count_between, all_points, all_of_box, is_in, meets_row, meets_rows, meets_lower, low_from, high_from, is_feasible, is_optimal, is_only_optimum, is_infeasible, TestsDecide}
+use Rattle.bl_terms.proofs.TestLemmas.{Decides-int_le, Decides-int_lt, Decides-implies, Decides-self, and_true, pos-unsigned_abs}
 use Rattle.bl_terms.proofs.PlaceLemmas.{among_from_Contains, Contains-from_among}
-
-pub Decides-int_le : (a b : ℤ) → Decides (int_le a b) (a ≤ℤ b)
-Decides-int_le a b = (λ e. omega (arith, ints), λ h. grind (arith, ints))
-
-Decides-int_lt : (a b : ℤ) → Decides (int_lt a b) (a <ℤ b)
-Decides-int_lt a b = (λ e. omega (arith, ints), λ h. grind (arith, ints))
-
--- both parts of a conjunction of tests
-pub and_true : (s t : Bool) → (s && t) ≡ true → (s ≡ true) × (t ≡ true)
-and_true true t h = (refl, h)
-and_true false t h = cc
 
 pub all_below_decides : (n : ℕ) (test : ℕ → Bool) (P : ℕ → Type 0) → ((k : ℕ) → k < n → Decides (test k) (P k)) → Decides (all_below n test) ((k : ℕ) → k < n → P k)
 all_below_decides zero test P each = (λ e k b. absurd (omega arith), λ h. refl)
@@ -56,23 +46,19 @@ record IsBetween (n : ℕ) (lo hi : ℕ → ℤ) (z : List ℤ) : Type 0 where
   least : (k : ℕ) → k < n → lo k ≤ℤ entry z k
   most : (k : ℕ) → k < n → entry z k ≤ℤ hi k
 
-abs_is : (x : ℤ) → pos 0 ≤ℤ x → pos (unsigned_abs x) ≡ x
-abs_is (pos n) h = refl
-abs_is (negsuc n) h = absurd h.le
-
 -- the numbers counted from lo on are those up to hi
 count_between_is : (lo hi x : ℤ) → lo ≤ℤ x → x ≤ℤ hi → x <ℤ (lo +ℤ pos (count_between lo hi))
 count_between_is lo hi x low high = by (int_le lo hi) refl
   where
     by : (t : Bool) → int_le lo hi ≡ t → x <ℤ (lo +ℤ pos (cond t (unsigned_abs (hi -ℤ lo +ℤ pos 1)) 0))
-    by true e = let a = abs_is (hi -ℤ lo +ℤ pos 1) (omega (arith, ints)) in omega (arith, ints)
+    by true e = let a = pos-unsigned_abs (hi -ℤ lo +ℤ pos 1) (omega (arith, ints)) in omega (arith, ints)
     by false e = absurd (omega (arith, ints))
 
 between_count : (lo hi x : ℤ) → lo ≤ℤ x → x <ℤ (lo +ℤ pos (count_between lo hi)) → x ≤ℤ hi
 between_count lo hi x low high = by (int_le lo hi) refl high
   where
     by : (t : Bool) → int_le lo hi ≡ t → x <ℤ (lo +ℤ pos (cond t (unsigned_abs (hi -ℤ lo +ℤ pos 1)) 0)) → x ≤ℤ hi
-    by true e h = let a = abs_is (hi -ℤ lo +ℤ pos 1) (omega (arith, ints)) in omega (arith, ints)
+    by true e h = let a = pos-unsigned_abs (hi -ℤ lo +ℤ pos 1) (omega (arith, ints)) in omega (arith, ints)
     by false e h = absurd (omega (arith, ints))
 
 between_cons : (n : ℕ) (lo hi : ℕ → ℤ) (x : ℤ) (z : List ℤ) → lo 0 ≤ℤ x → x ≤ℤ hi 0 → IsBetween n (λ k. lo (suc k)) (λ k. hi (suc k)) z → IsBetween (suc n) lo hi (x ∷ z)
@@ -143,14 +129,6 @@ pub meets_rows_decides : (p : Program) (z : List ℤ) → Decides (meets_rows p 
 meets_rows_decides p z =
     Decides-like (meets_rows p z) (λ h. record { each = h }) (λ m. m.each)
     (all_below_decides (length p.rows) (meets_row p z) (λ i. Meets (inequality (row_at p.rows i)) z) (λ i b. meets_row_decides p z i))
-
--- `not a || b` tests that a implies b
-Decides-implies : {P Q : Type 0} (s t : Bool) → Decides s P → Decides t Q → Decides (not s || t) (P → Q)
-Decides-implies true t d e = (λ h p. e.0 h, λ h. e.1 (h (d.0 refl)))
-Decides-implies false t d e = (λ h p. absurd (true≢false (sym (d.1 p))), λ h. refl)
-
-Decides-self : (t : Bool) → Decides t (IsTrue t)
-Decides-self t = (λ h. h, λ h. h)
 
 pub meets_lower_decides : (p : Program) (z : List ℤ) → Decides (meets_lower p z) (Lower p z)
 meets_lower_decides p z =

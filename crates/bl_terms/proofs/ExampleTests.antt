@@ -13,7 +13,8 @@ use Rattle.bl_terms.specs.Bounds.{Problem, Weights, Proves, mark_of, bound_of}
 use Rattle.bl_terms.specs.EveryPoint.{all_below}
 use Rattle.bl_terms.proofs.PlaceLemmas.{Contains-from_among, place_of}
 use Rattle.bl_terms.proofs.ProgramLemmas.{linking_computed}
-use Rattle.bl_terms.proofs.EveryPointLemmas.{all_below_decides, and_true, Decides-int_le}
+use Rattle.bl_terms.proofs.EveryPointLemmas.{all_below_decides}
+use Rattle.bl_terms.proofs.TestLemmas.{and_true, Decides-int_le}
 
 all_pass : (n : ℕ) (test : ℕ → Bool) → all_below n test ≡ true → (k : ℕ) → k < n → test k ≡ true
 all_pass n test e = (all_below_decides n test (λ k. test k ≡ true) (λ k b. (λ h. h, λ h. h))).0 e

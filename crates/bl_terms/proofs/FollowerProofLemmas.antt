@@ -1,8 +1,8 @@
 -- A follower proof implies a true entry.
 use Rattle.std.proofs.Common.{◌≡◌, ℕ, zero, suc, ◌<◌, refl, sym, ◌∙◌, arith, Bool, true, false, cond, List, [], ◌∷◌, length}
-use Rattle.std.specs.Prelude.{ℤ, pos, ◌≤ℤ◌, Some, None, slice_index, IsTrue}
+use Rattle.std.specs.Prelude.{ℤ, ◌≤ℤ◌, Some, None, slice_index, IsTrue}
 use Rattle.std.proofs.lemmas.Int.{ints}
-use Rattle.std.proofs.lemmas.List.{length-map, get_or-map}
+use Rattle.std.proofs.lemmas.List.{length-map}
 use Rattle.std.proofs.lemmas.Bool.{false≢true}
 use Rattle.bl_whole.specs.Sums.{entry}
 use Rattle.bl_terms.specs.Points.{Area, IsArea, InArea, Linear, Meets, values_at}
@@ -10,13 +10,9 @@ use Rattle.bl_terms.specs.Programs.{Program, Row, row_at, IsProgram}
 use Rattle.bl_terms.specs.Responses.{IsResponse, response_cost, Best, NoResponse}
 use Rattle.bl_terms.specs.Bounds.{linear_at, IsPoint, IsProblem, Proves}
 use Rattle.bl_terms.specs.FollowerProofs.{follower_row, follower_rows, follower_box, follower_problem, FollowerProofLaw, FollowerPoints}
-use Rattle.bl_terms.proofs.PlaceLemmas.{Contains-at}
+use Rattle.bl_terms.proofs.PlaceLemmas.{Contains-at, values_at-entry}
 use Rattle.bl_terms.proofs.TreeLemmas.{tree_shows}
 use Rattle.bl_terms.proofs.BoundLemmas.{weak_duality, no_cutoff_no_point}
-
--- values at a place of a list of places
-values_at-entry : (z : List ℤ) (ks : List ℕ) (j : ℕ) → j < length ks → entry (values_at z ks) j ≡ entry z (slice_index ks j)
-values_at-entry z ks j b = get_or-map (λ k. entry z k) ks j 0 (pos 0) b
 
 -- what holds of each row of the follower among rows holds of each row of `follower_rows`
 each_follower_row : (p : Program) (l : List ℤ) (P : Linear → Type 0) (rows : List Row)

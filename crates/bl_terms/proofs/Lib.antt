@@ -1,4 +1,5 @@
 pub mod PlaceLemmas
+pub mod TestLemmas
 pub mod ProgramLemmas
 pub mod ResponseLemmas
 pub mod TreeLemmas

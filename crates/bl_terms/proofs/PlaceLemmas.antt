@@ -42,12 +42,16 @@ Contains-at ks j b = (j, b, get_or_default ks j (slice_index ks j) 0 b)
 pub place_of : (ks : List ℕ) (k : ℕ) → Contains ks k → (j : ℕ) × (j < length ks) × (slice_index ks j ≡ k)
 place_of ks k c = (c.0, c.1, get_or_default ks c.0 0 k c.1 ∙ c.2)
 
+-- the number at a place of a list of values
+pub values_at-entry : (z : List ℤ) (ks : List ℕ) (j : ℕ) → j < length ks → entry (values_at z ks) j ≡ entry z (slice_index ks j)
+values_at-entry z ks j b = get_or-map (λ k. entry z k) ks j 0 (pos 0) b
+
 -- the sum over ks of the products at its places
 pub dot-values_at : (c z : List ℤ) (ks : List ℕ) → dot (values_at c ks) (values_at z ks) ≡ sum_over ks (λ k. entry c k *ℤ entry z k)
 dot-values_at c z ks =
     rw (length-map ks (λ k. entry c k))
     (sum_below-agree (length ks) (λ j. entry (values_at c ks) j *ℤ entry (values_at z ks) j) (λ j. entry c (slice_index ks j) *ℤ entry z (slice_index ks j))
-    (λ j b. let e = get_or-map (λ k. entry c k) ks j 0 (pos 0) b in let f = get_or-map (λ k. entry z k) ks j 0 (pos 0) b in cc))
+    (λ j b. let e = values_at-entry c ks j b in let f = values_at-entry z ks j b in cc))
 
 -- zs with the numbers of ys at the places ks
 abbrev pub put_at : List ℕ → List ℤ → List ℤ → List ℤ

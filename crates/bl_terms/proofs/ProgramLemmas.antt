@@ -12,13 +12,8 @@ use Rattle.bl_whole.specs.Sums.{entry}
 use Rattle.bl_whole.proofs.SumLemmas.{rising_pairs, Contains-here, Contains-there, Contains-cases}
 use Rattle.bl_terms.specs.Points.{is_among}
 use Rattle.bl_terms.specs.Programs.{Program, Row, columns, row_at, IsLeader, IsInLower, is_in_lower, is_linking, linking_below, LinkingComputed}
-use Rattle.bl_terms.proofs.PlaceLemmas.{among_from_Contains, Contains-from_among, Contains-at, place_of}
-
-Decides-among : (k : ℕ) (ks : List ℕ) → Decides (is_among k ks) (Contains ks k)
-Decides-among k ks = (Contains-from_among k ks, among_from_Contains k ks)
-
-Decides-self : (t : Bool) → Decides t (IsTrue t)
-Decides-self t = (λ h. h, λ h. h)
+use Rattle.bl_terms.proofs.TestLemmas.{Decides-self, Decides-among}
+use Rattle.bl_terms.proofs.PlaceLemmas.{Contains-at, place_of}
 
 -- some row of the follower among the first n has a coefficient other than 0
 abbrev IsInFirst : List Row → ℕ → ℕ → Type 0

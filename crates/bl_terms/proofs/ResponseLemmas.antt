@@ -3,14 +3,14 @@ use Rattle.std.proofs.Common.{◌≡◌, ◌≢◌, ℕ, zero, suc, ◌<◌, ref
 use Rattle.std.specs.Prelude.{ℤ, pos, negsuc, ◌+ℤ◌, ◌*ℤ◌, ◌≤ℤ◌, slice_index, Contains, IsTrue}
 use Rattle.std.proofs.Math.IntN.{zero-*ℤ}
 use Rattle.std.proofs.lemmas.Int.{ints}
-use Rattle.std.proofs.lemmas.List.{length-map, get_or-map, ext_get_or}
+use Rattle.std.proofs.lemmas.List.{length-map, ext_get_or}
 use Rattle.bl_whole.specs.Sums.{entry, sum_over, dot}
 use Rattle.bl_whole.proofs.SumLemmas.{sum_below_picked, rising_pairs}
 use Rattle.bl_terms.specs.Points.{values_at}
 use Rattle.bl_terms.specs.Programs.{Program, columns, row_at, In, Rows, Lower, IsLeader, IsProgram, SameLead, link_of, response_of, follower_at}
 use Rattle.bl_terms.specs.Feasible.{BilevelFeasible}
 use Rattle.bl_terms.specs.Responses.{InRanges, left_side, IsResponse, response_cost, IsBest, IsFollowerOptimum, OptimumOfLink, EntryIsOptimum, NoResponseNoPoint, EntryLaw}
-use Rattle.bl_terms.proofs.PlaceLemmas.{cases_Contains, Contains-at, place_of, dot-values_at, put_at, length-put_at, put_at-other, put_at-same, sum_below_two}
+use Rattle.bl_terms.proofs.PlaceLemmas.{values_at-entry, cases_Contains, Contains-at, place_of, dot-values_at, put_at, length-put_at, put_at-other, put_at-same, sum_below_two}
 
 -- a linking column is the leader's, and no column of the follower
 link_leads : (p : Program) → IsProgram p → (k : ℕ) → Contains p.links k → IsLeader p k
@@ -69,8 +69,8 @@ cost_split p z g =
 values_in_ranges : (p : Program) (z : List ℤ) (ks : List ℕ) → ((k : ℕ) → Contains ks k → k < columns p) → In p z → InRanges p ks (values_at z ks)
 values_in_ranges p z ks below inside = record {
   count = length-map ks (λ k. entry z k);
-  least = λ j b. let e = get_or-map (λ k. entry z k) ks j 0 (pos 0) b in rw e (inside.least (slice_index ks j) (below (slice_index ks j) (Contains-at ks j b)));
-  most = λ j b. let e = get_or-map (λ k. entry z k) ks j 0 (pos 0) b in rw e (inside.most (slice_index ks j) (below (slice_index ks j) (Contains-at ks j b)));
+  least = λ j b. let e = values_at-entry z ks j b in rw e (inside.least (slice_index ks j) (below (slice_index ks j) (Contains-at ks j b)));
+  most = λ j b. let e = values_at-entry z ks j b in rw e (inside.most (slice_index ks j) (below (slice_index ks j) (Contains-at ks j b)));
 }
 
 -- a point of the box that meets the follower's rows has a response to its link
@@ -94,7 +94,7 @@ with_response-response : (p : Program) (z y : List ℤ) → IsProgram p → leng
 with_response-response p z y g e e' =
     ext_get_or (pos 0) (response_of p (with_response p z y)) y (length-map p.follower (λ k. entry (with_response p z y) k) ∙ sym e')
     (λ j b. let b' : j < length p.follower = rw length-map at b in
-    get_or-map (λ k. entry (with_response p z y) k) p.follower j 0 (pos 0) b' ∙ with_response-same p z y g e e' j b')
+    values_at-entry (with_response p z y) p.follower j b' ∙ with_response-same p z y g e e' j b')
 
 with_response-lead : (p : Program) (z y : List ℤ) → SameLead p z (with_response p z y)
 with_response-lead p z y = record { agree = λ k leader. sym (put_at-other p.follower y z k leader.leads) }
@@ -104,9 +104,9 @@ pub link_from_lead : (p : Program) (z z' : List ℤ) → IsProgram p → SameLea
 link_from_lead p z z' g same =
     ext_get_or (pos 0) (link_of p z) (link_of p z') (length-map p.links (λ k. entry z k) ∙ sym (length-map p.links (λ k. entry z' k)))
     (λ j b. let b' : j < length p.links = rw length-map at b in
-    get_or-map (λ k. entry z k) p.links j 0 (pos 0) b'
+    values_at-entry z p.links j b'
     ∙ same.agree (slice_index p.links j) (link_leads p g (slice_index p.links j) (Contains-at p.links j b'))
-    ∙ sym (get_or-map (λ k. entry z' k) p.links j 0 (pos 0) b'))
+    ∙ sym (values_at-entry z' p.links j b'))
 
 -- what holds of each of the follower's columns by its place holds of it by its number
 at_follower : (p : Program) (P : ℕ → Type 0) → ((j : ℕ) → j < length p.follower → P (slice_index p.follower j)) → (k : ℕ) → Contains p.follower k → P k

@@ -1,12 +1,13 @@
 -- Trees over boxes: their leaves share out the points of the box.
 use Rattle.std.proofs.Common.{◌≡◌, ◌≢◌, ℕ, zero, suc, ◌+◌, ◌*◌, ◌<◌, ◌≤◌, refl, sym, ◌∙◌, subst, arith, List, [], ◌∷◌, length, inl, inr}
-use Rattle.std.specs.Prelude.{ℤ, pos, negsuc, ◌+ℤ◌, ◌-ℤ◌, ◌≤ℤ◌, ◌<ℤ◌, slice_set, unsigned_abs}
+use Rattle.std.specs.Prelude.{ℤ, pos, ◌+ℤ◌, ◌-ℤ◌, ◌≤ℤ◌, ◌<ℤ◌, slice_set}
 use Rattle.std.proofs.lemmas.Int.{ints, by_lt_z}
 use Rattle.std.proofs.lemmas.Bool.{cases_eq, cases_lt}
 use Rattle.std.proofs.lemmas.List.{get_or-set_same, get_or-set_other, length-set}
 use Rattle.std.proofs.lemmas.Nat.{mul-le}
 use Rattle.std.proofs.Math.Nat.{add-mul, mul-add}
 use Rattle.bl_whole.specs.Sums.{entry}
+use Rattle.bl_terms.proofs.TestLemmas.{pos-unsigned_abs}
 use Rattle.bl_terms.specs.Points.{Area, IsArea, InArea}
 use Rattle.bl_terms.specs.Trees.{Node, Leaf, Split, low_half, high_half, CanSplit, Covers, leaf_boxes, area_at, product_below, width_at, point_count, EachPointInOneLeaf, LeavesAreParts, LeavesAtMostPoints}
 
@@ -276,11 +277,7 @@ product_below-split (suc n) j f g h b eg eh e =
 
 -- the width of a range that isn't empty, and of two that share out one
 width_is : (a : Area) (k : ℕ) → entry a.lo k ≤ℤ entry a.hi k → pos (width_at a k) ≡ entry a.hi k -ℤ entry a.lo k +ℤ pos 1
-width_is a k h = abs_is (entry a.hi k -ℤ entry a.lo k +ℤ pos 1) (omega (arith, ints))
-  where
-    abs_is : (x : ℤ) → pos 0 ≤ℤ x → pos (unsigned_abs x) ≡ x
-    abs_is (pos n) h = refl
-    abs_is (negsuc n) h = absurd h.le
+width_is a k h = pos-unsigned_abs (entry a.hi k -ℤ entry a.lo k +ℤ pos 1) (omega (arith, ints))
 
 width-other : (a a' : Area) (k : ℕ) → entry a'.lo k ≡ entry a.lo k → entry a'.hi k ≡ entry a.hi k → width_at a' k ≡ width_at a k
 width-other a a' k e f = rw (e, f) refl

@@ -117,7 +117,9 @@ NoCutoffNoPoint = (q : Problem) (w : Weights) (z : List ℤ) → IsProblem q →
 
 -- a tree of proofs bounds its box: every point of it that meets the rows costs at least the cutoff
 abbrev pub TreeOfProofs : Type 0
-TreeOfProofs = (q : Problem) (u : ℤ) (nodes : List (Node Weights)) (z : List ℤ) → IsProblem q → ProvesByParts q (Some u) nodes → IsPoint q z → u ≤ℤ dot q.cost z
+TreeOfProofs =
+    (q : Problem) (u : ℤ) (nodes : List (Node Weights)) (z : List ℤ)
+    → IsProblem q → ProvesByParts q (Some u) nodes → IsPoint q z → u ≤ℤ dot q.cost z
 
 -- and a tree of proofs without a cutoff shows that no point of the box meets the rows
 abbrev pub TreeOfRefusals : Type 0

@@ -69,7 +69,8 @@ is_infeasible p = all_of_box p (λ z. not (is_feasible p z))
 -- z is bilevel feasible and costs v, no bilevel feasible point costs less, and no other costs as much
 abbrev pub is_only_optimum : Program → List ℤ → ℤ → Bool
 is_only_optimum p z v =
-    is_optimal p z v && all_of_box p (λ z'. not (is_feasible p z') || (int_lt v (cost_at p z') || all_below (columns p) (λ k. int_eq (entry z k) (entry z' k))))
+    is_optimal p z v
+    && all_of_box p (λ z'. not (is_feasible p z') || (int_lt v (cost_at p z') || all_below (columns p) (λ k. int_eq (entry z k) (entry z' k))))
 
 -- THE LAW: each test passes exactly where what it tests holds
 pub record TestsDecide : Type 0 where

@@ -15,7 +15,8 @@ pub record Row : Type 0 where
 
 abbrev pub row_code : Coded Row
 row_code =
-    code_by (List ℤ × (ℤ × Bool)) (coded× (coded_list coded_ℤ) (coded× coded_ℤ coded_bool)) (λ r. (r.coef, (r.right, r.lower))) (λ p. record { coef = p.0; right = p.1.0; lower = p.1.1 }) (λ _. refl)
+    code_by (List ℤ × (ℤ × Bool)) (coded× (coded_list coded_ℤ) (coded× coded_ℤ coded_bool)) (λ r. (r.coef, (r.right, r.lower)))
+    (λ p. record { coef = p.0; right = p.1.0; lower = p.1.1 }) (λ _. refl)
 
 -- a bilevel program. The numbers from lo to hi are each column's range. The leader minimises cost and the follower follower_cost.
 -- follower has the places of the follower's columns, links those of the linking columns; sense is 1 where the follower's cost
@@ -34,12 +35,25 @@ pub record Program : Type 0 where
 abbrev pub ProgramParts : Type 0
 ProgramParts = List ℤ × (List ℤ × (List Row × (List ℤ × (List ℤ × (List ℕ × (List ℕ × ℤ))))))
 
+abbrev pub program_of_parts : ProgramParts → Program
+program_of_parts q = record {
+  lo = q.0;
+  hi = q.1.0;
+  rows = q.1.1.0;
+  cost = q.1.1.1.0;
+  follower_cost = q.1.1.1.1.0;
+  follower = q.1.1.1.1.1.0;
+  links = q.1.1.1.1.1.1.0;
+  sense = q.1.1.1.1.1.1.1;
+}
+
 abbrev pub program_code : Coded Program
 program_code =
     code_by ProgramParts
-    (coded× (coded_list coded_ℤ) (coded× (coded_list coded_ℤ) (coded× (coded_list row_code) (coded× (coded_list coded_ℤ) (coded× (coded_list coded_ℤ) (coded× (coded_list coded_ℕ) (coded× (coded_list coded_ℕ) coded_ℤ)))))))
+    (coded× (coded_list coded_ℤ) (coded× (coded_list coded_ℤ) (coded× (coded_list row_code) (coded× (coded_list coded_ℤ)
+    (coded× (coded_list coded_ℤ) (coded× (coded_list coded_ℕ) (coded× (coded_list coded_ℕ) coded_ℤ)))))))
     (λ p. (p.lo, (p.hi, (p.rows, (p.cost, (p.follower_cost, (p.follower, (p.links, p.sense))))))))
-    (λ q. record { lo = q.0; hi = q.1.0; rows = q.1.1.0; cost = q.1.1.1.0; follower_cost = q.1.1.1.1.0; follower = q.1.1.1.1.1.0; links = q.1.1.1.1.1.1.0; sense = q.1.1.1.1.1.1.1 })
+    program_of_parts
     (λ _. refl)
 
 -- how many columns

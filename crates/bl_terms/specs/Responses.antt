@@ -56,7 +56,8 @@ pub record IsFollowerOptimum (p : Program) (z : List ℤ) (v : ℤ) : Type 0 whe
 -- points with one link have one follower's optimum, whatever their other columns are
 abbrev pub OptimumOfLink : Type 0
 OptimumOfLink =
-    (p : Program) (z z' : List ℤ) (v : ℤ) → IsProgram p → In p z → In p z' → link_of p z ≡ link_of p z' → IsFollowerOptimum p z v → IsFollowerOptimum p z' v
+    (p : Program) (z z' : List ℤ) (v : ℤ) → IsProgram p → In p z → In p z' → link_of p z ≡ link_of p z'
+    → IsFollowerOptimum p z v → IsFollowerOptimum p z' v
 
 -- where the link's entry is true, a best response's cost is the follower's optimum
 abbrev pub EntryIsOptimum : Type 0

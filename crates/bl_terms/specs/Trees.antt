@@ -1,4 +1,5 @@
--- Trees that split a box, as in branch and bound (Land and Doig 1960), generic in what a leaf hands in: lists of nodes in preorder over a stack of the boxes that are still to be closed.
+-- Trees that split a box, as in branch and bound (Land and Doig 1960), generic in what a leaf hands in: lists of nodes in preorder
+-- over a stack of the boxes that are still to be closed.
 use Rattle.std.specs.Prelude.{ℕ, ℤ, pos, ◌≡◌, ◌+◌, ◌*◌, ◌<◌, ◌≤◌, ◌+ℤ◌, ◌-ℤ◌, ◌≤ℤ◌, ◌<ℤ◌, zero, suc, List, [], ◌∷◌, length, slice_set, slice_index_or, unsigned_abs}
 use Rattle.bl_whole.specs.Sums.{entry}
 use Rattle.bl_terms.specs.Points.{Area, IsArea, InArea}
