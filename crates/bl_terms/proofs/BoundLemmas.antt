@@ -1,14 +1,15 @@
 -- Weak duality.
-use Rattle.std.proofs.Common.{◌≡◌, ℕ, ◌<◌, refl, sym, ◌∙◌, ap, subst, arith, Bool, true, false, cond, List, length}
-use Rattle.std.specs.Prelude.{ℤ, pos, negsuc, ◌+ℤ◌, ◌-ℤ◌, ◌*ℤ◌, ◌≤ℤ◌, ◌<ℤ◌, int_lt, Option, Some, None}
+use Rattle.std.proofs.Common.{◌≡◌, ℕ, refl, sym, ◌∙◌, arith, Bool, true, false, cond, List, length}
+use Rattle.std.specs.Prelude.{ℤ, pos, ◌+ℤ◌, ◌-ℤ◌, ◌*ℤ◌, ◌≤ℤ◌, int_lt, Option, Some, None}
 use Rattle.std.proofs.Math.IntN.{zero-*ℤ, *ℤ_comm}
 use Rattle.std.proofs.lemmas.Int.{ints}
 use Rattle.std.specs.Int.Signed.{≤ℤ_refl}
 use Rattle.bl_whole.specs.Sums.{entry, sum_below, dot}
 use Rattle.bl_whole.proofs.Products.{*ℤ_assoc, +ℤ-*ℤ, mul_le_left, mul_le_left_neg, lt_of_mul_lt}
 use Rattle.bl_whole.proofs.SumLemmas.{sum_below-agree, sum_below-add, sum_below-scale, sum_below-exchange, sum_below_monotone}
-use Rattle.bl_terms.specs.Points.{Area, IsArea, InArea, Linear, Meets}
-use Rattle.bl_terms.specs.Bounds.{Problem, linear_at, IsPoint, IsProblem, Weights, weight_at, least_product, least_term, right_sum, bound_of, mark_of, AreWeights, Proves, LeastProduct, WeakDuality, NoPoint, NoCutoffNoPoint}
+use Rattle.bl_terms.specs.Points.{Area, IsArea, InArea}
+use Rattle.bl_terms.specs.Bounds.{Problem, linear_at, IsPoint, IsProblem, Weights, weight_at, least_product, least_term, right_sum, bound_of, Proves, LeastProduct, WeakDuality, NoPoint, NoCutoffNoPoint, over, TreeOfProofs, TreeOfRefusals}
+use Rattle.bl_terms.proofs.TreeLemmas.{tree_shows}
 
 least_of_range : (a lo hi x : ℤ) → lo ≤ℤ x → x ≤ℤ hi → least_product a lo hi ≤ℤ (a *ℤ x)
 least_of_range a lo hi x low high = by (int_lt a (pos 0)) refl
@@ -38,8 +39,8 @@ term q w z j =
     let turned = *ℤ_comm (sum_below m a) (entry z j) in
     let scaled = sum_below-scale m (entry z j) a in
     let each : sum_below m (λ i. entry z j *ℤ a i) ≡ sum_below m (λ i. entry w.mult i *ℤ (entry (linear_at q.rows i).coef j *ℤ entry z j)) =
-        sum_below-agree m (λ i. entry z j *ℤ a i) (λ i. entry w.mult i *ℤ (entry (linear_at q.rows i).coef j *ℤ entry z j))
-        (λ i b. *ℤ_comm (entry z j) (a i) ∙ *ℤ_assoc (entry w.mult i) (entry (linear_at q.rows i).coef j) (entry z j)) in
+    sum_below-agree m (λ i. entry z j *ℤ a i) (λ i. entry w.mult i *ℤ (entry (linear_at q.rows i).coef j *ℤ entry z j))
+    (λ i b. *ℤ_comm (entry z j) (a i) ∙ *ℤ_assoc (entry w.mult i) (entry (linear_at q.rows i).coef j) (entry z j)) in
     omega (arith, ints)
 
 -- the weighted rows and the weighted cost at z, column by column
@@ -51,15 +52,15 @@ weighted q w z g =
     let m = length q.rows in
     let a : ℕ → ℕ → ℤ = λ i j. entry w.mult i *ℤ (entry (linear_at q.rows i).coef j *ℤ entry z j) in
     let each : sum_below n (λ j. weight_at q w j *ℤ entry z j) ≡ sum_below n (λ j. w.den *ℤ (entry q.cost j *ℤ entry z j) +ℤ sum_below m (λ i. a i j)) =
-        sum_below-agree n (λ j. weight_at q w j *ℤ entry z j) (λ j. w.den *ℤ (entry q.cost j *ℤ entry z j) +ℤ sum_below m (λ i. a i j)) (λ j b. term q w z j) in
+    sum_below-agree n (λ j. weight_at q w j *ℤ entry z j) (λ j. w.den *ℤ (entry q.cost j *ℤ entry z j) +ℤ sum_below m (λ i. a i j)) (λ j b. term q w z j) in
     let added = sum_below-add n (λ j. w.den *ℤ (entry q.cost j *ℤ entry z j)) (λ j. sum_below m (λ i. a i j)) in
     let cost : sum_below n (λ j. w.den *ℤ (entry q.cost j *ℤ entry z j)) ≡ w.den *ℤ dot q.cost z =
-        rw (← g.cost_columns) (sum_below-scale (length q.cost) w.den (λ j. entry q.cost j *ℤ entry z j)) in
+    rw (← g.cost_columns) (sum_below-scale (length q.cost) w.den (λ j. entry q.cost j *ℤ entry z j)) in
     let turned : sum_below n (λ j. sum_below m (λ i. a i j)) ≡ sum_below m (λ i. sum_below n (λ j. a i j)) = sum_below-exchange n m (λ j i. a i j) in
     let rows : sum_below m (λ i. sum_below n (λ j. a i j)) ≡ sum_below m (λ i. entry w.mult i *ℤ dot (linear_at q.rows i).coef z) =
-        sum_below-agree m (λ i. sum_below n (λ j. a i j)) (λ i. entry w.mult i *ℤ dot (linear_at q.rows i).coef z)
-        (λ i b. let c = g.row_columns i b in
-            rw (← c) (sum_below-scale (length (linear_at q.rows i).coef) (entry w.mult i) (λ j. entry (linear_at q.rows i).coef j *ℤ entry z j))) in
+    sum_below-agree m (λ i. sum_below n (λ j. a i j)) (λ i. entry w.mult i *ℤ dot (linear_at q.rows i).coef z)
+    (λ i b. let c = g.row_columns i b in
+    rw (← c) (sum_below-scale (length (linear_at q.rows i).coef) (entry w.mult i) (λ j. entry (linear_at q.rows i).coef j *ℤ entry z j))) in
     omega (arith, ints)
 
 -- the bound is at most the weighted cost of each point of the box that meets the rows
@@ -67,11 +68,11 @@ bound_below_cost : (q : Problem) (u : Option ℤ) (w : Weights) (z : List ℤ) �
 bound_below_cost q u w z g proof point =
     let m = length q.rows in
     let least : sum_below (length q.area.lo) (least_term q w) ≤ℤ sum_below (length q.area.lo) (λ j. weight_at q w j *ℤ entry z j) =
-        sum_below_monotone (length q.area.lo) (least_term q w) (λ j. weight_at q w j *ℤ entry z j)
-        (λ j b. least_of_range (weight_at q w j) (entry q.area.lo j) (entry q.area.hi j) (entry z j) (point.inside.least j b) (point.inside.most j b)) in
+    sum_below_monotone (length q.area.lo) (least_term q w) (λ j. weight_at q w j *ℤ entry z j)
+    (λ j b. least_of_range (weight_at q w j) (entry q.area.lo j) (entry q.area.hi j) (entry z j) (point.inside.least j b) (point.inside.most j b)) in
     let rights : sum_below m (λ i. entry w.mult i *ℤ dot (linear_at q.rows i).coef z) ≤ℤ right_sum q w =
-        sum_below_monotone m (λ i. entry w.mult i *ℤ dot (linear_at q.rows i).coef z) (λ i. entry w.mult i *ℤ (linear_at q.rows i).right)
-        (λ i b. mul_le_left (entry w.mult i) (proof.weights.least i (rw proof.rows b)) (point.rows i b).holds) in
+    sum_below_monotone m (λ i. entry w.mult i *ℤ dot (linear_at q.rows i).coef z) (λ i. entry w.mult i *ℤ (linear_at q.rows i).right)
+    (λ i b. mul_le_left (entry w.mult i) (proof.weights.least i (rw proof.rows b)) (point.rows i b).holds) in
     let e = weighted q w z g in
     omega (arith, ints)
 
@@ -97,3 +98,21 @@ no_point q None w z g proof zero point =
 
 pub no_cutoff_no_point : NoCutoffNoPoint
 no_cutoff_no_point q w z g proof point = no_point q None w z g proof (proof.free refl) point
+
+-- a leaf's box that has a point has as many columns as the whole box
+over_problem : (q : Problem) (a : Area) (z : List ℤ) → IsProblem q → IsArea a → InArea a z → InArea q.area z → IsProblem (over q a)
+over_problem q a z g area inside whole =
+    let n : length q.area.lo ≡ length a.lo = sym whole.columns ∙ inside.columns in
+    record { box = area; cost_columns = g.cost_columns ∙ n; row_columns = λ i b. g.row_columns i b ∙ n }
+
+pub tree_of_proofs : TreeOfProofs
+tree_of_proofs q u nodes z g tree point =
+    tree_shows (λ a w. Proves (over q a) (Some u) w) (λ x. IsPoint q x → u ≤ℤ dot q.cost x)
+    (λ a w x area closed inside p. weak_duality (over q a) u w x (over_problem q a x g area inside p.inside) closed (record { inside = inside; rows = p.rows }))
+    nodes q.area g.box tree z point.inside point
+
+pub tree_of_refusals : TreeOfRefusals
+tree_of_refusals q nodes z g tree point =
+    tree_shows (λ a w. Proves (over q a) None w) (λ x. IsPoint q x → ⊥)
+    (λ a w x area closed inside p. no_cutoff_no_point (over q a) w x (over_problem q a x g area inside p.inside) closed (record { inside = inside; rows = p.rows }))
+    nodes q.area g.box tree z point.inside point

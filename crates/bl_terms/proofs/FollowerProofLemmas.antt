@@ -1,23 +1,18 @@
 -- A follower proof implies a true entry.
-use Rattle.std.proofs.Common.{◌≡◌, ℕ, zero, suc, ◌<◌, ◌≤◌, refl, sym, ◌∙◌, ap, subst, arith, Bool, true, false, cond, List, [], ◌∷◌, length}
-use Rattle.std.specs.Prelude.{ℤ, pos, ◌+ℤ◌, ◌-ℤ◌, ◌*ℤ◌, ◌≤ℤ◌, Option, Some, None, slice_index, IsTrue, Contains}
+use Rattle.std.proofs.Common.{◌≡◌, ℕ, zero, suc, ◌<◌, refl, sym, ◌∙◌, arith, Bool, true, false, cond, List, [], ◌∷◌, length}
+use Rattle.std.specs.Prelude.{ℤ, ◌≤ℤ◌, Some, None, slice_index, IsTrue}
 use Rattle.std.proofs.lemmas.Int.{ints}
-use Rattle.std.proofs.lemmas.List.{length-map, get_or-map}
+use Rattle.std.proofs.lemmas.List.{length-map}
 use Rattle.std.proofs.lemmas.Bool.{false≢true}
-use Rattle.bl_whole.specs.Sums.{entry, dot}
+use Rattle.bl_whole.specs.Sums.{entry}
 use Rattle.bl_terms.specs.Points.{Area, IsArea, InArea, Linear, Meets, values_at}
-use Rattle.bl_terms.specs.Programs.{Program, Row, row_at, IsProgram, columns}
-use Rattle.bl_terms.specs.Responses.{InRanges, IsResponse, left_side, response_cost, IsBest, Entry, Best, NoResponse, IsTrueEntry}
-use Rattle.bl_terms.specs.Trees.{Node, Covers}
-use Rattle.bl_terms.specs.Bounds.{Problem, linear_at, IsPoint, IsProblem, Weights, Proves}
-use Rattle.bl_terms.specs.FollowerProofs.{follower_row, follower_rows, follower_box, follower_problem, ClosesFollower, ProvesBest, IsFollowerProof, IsWithinArea, FollowerProofLaw, FollowerPoints}
-use Rattle.bl_terms.proofs.PlaceLemmas.{Contains-at}
+use Rattle.bl_terms.specs.Programs.{Program, Row, row_at, IsProgram}
+use Rattle.bl_terms.specs.Responses.{IsResponse, response_cost, Best, NoResponse}
+use Rattle.bl_terms.specs.Bounds.{linear_at, IsPoint, IsProblem, Proves}
+use Rattle.bl_terms.specs.FollowerProofs.{follower_row, follower_rows, follower_box, follower_problem, FollowerProofLaw, FollowerPoints}
+use Rattle.bl_terms.proofs.PlaceLemmas.{Contains-at, values_at-entry}
 use Rattle.bl_terms.proofs.TreeLemmas.{tree_shows}
 use Rattle.bl_terms.proofs.BoundLemmas.{weak_duality, no_cutoff_no_point}
-
--- values at a place of a list of places
-values_at-entry : (z : List ℤ) (ks : List ℕ) (j : ℕ) → j < length ks → entry (values_at z ks) j ≡ entry z (slice_index ks j)
-values_at-entry z ks j b = get_or-map (λ k. entry z k) ks j 0 (pos 0) b
 
 -- what holds of each row of the follower among rows holds of each row of `follower_rows`
 each_follower_row : (p : Program) (l : List ℤ) (P : Linear → Type 0) (rows : List Row)
@@ -51,27 +46,27 @@ row_of_follower p l P (r ∷ rs) h = by (λ others. row_of_follower p l P rs oth
 
 follower_box-area : (p : Program) → IsProgram p → IsArea (follower_box p)
 follower_box-area p g = record {
-    sides = length-map p.follower (λ k. entry p.hi k) ∙ sym (length-map p.follower (λ k. entry p.lo k));
-    ordered = λ j b.
-        let b' : j < length p.follower = rw length-map at b in
-        rw (values_at-entry p.lo p.follower j b', values_at-entry p.hi p.follower j b')
-        (g.box.ordered (slice_index p.follower j) (g.follower_below (slice_index p.follower j) (Contains-at p.follower j b')));
-  }
+  sides = length-map p.follower (λ k. entry p.hi k) ∙ sym (length-map p.follower (λ k. entry p.lo k));
+  ordered = λ j b.
+      let b' : j < length p.follower = rw length-map at b in
+      rw (values_at-entry p.lo p.follower j b', values_at-entry p.hi p.follower j b')
+      (g.box.ordered (slice_index p.follower j) (g.follower_below (slice_index p.follower j) (Contains-at p.follower j b')));
+}
 
 -- a response lies in the follower's box
 response_in_box : (p : Program) (l y : List ℤ) → IsResponse p l y → InArea (follower_box p) y
 response_in_box p l y r = record {
-    columns = r.ranges.count ∙ sym (length-map p.follower (λ k. entry p.lo k));
-    least = λ j b. let b' : j < length p.follower = rw length-map at b in rw (values_at-entry p.lo p.follower j b') (r.ranges.least j b');
-    most = λ j b. let b' : j < length p.follower = rw length-map at b in rw (values_at-entry p.hi p.follower j b') (r.ranges.most j b');
-  }
+  columns = r.ranges.count ∙ sym (length-map p.follower (λ k. entry p.lo k));
+  least = λ j b. let b' : j < length p.follower = rw length-map at b in rw (values_at-entry p.lo p.follower j b') (r.ranges.least j b');
+  most = λ j b. let b' : j < length p.follower = rw length-map at b in rw (values_at-entry p.hi p.follower j b') (r.ranges.most j b');
+}
 
 -- a response in a box is a point of the follower's problem over it
 point_from_response : (p : Program) (l y : List ℤ) (a : Area) → InArea a y → IsResponse p l y → IsPoint (follower_problem p l a) y
 point_from_response p l y a inside r = record {
-    inside = inside;
-    rows = each_follower_row p l (λ h. Meets h y) p.rows (λ i b low. let h = r.rows i b low in record { holds = omega (arith, ints) });
-  }
+  inside = inside;
+  rows = each_follower_row p l (λ h. Meets h y) p.rows (λ i b low. let h = r.rows i b low in record { holds = omega (arith, ints) });
+}
 
 -- the follower's problem over a box that has a response has one number for each column
 problem_from_response : (p : Program) (l y : List ℤ) (a : Area) → IsProgram p → IsArea a → InArea a y → IsResponse p l y → IsProblem (follower_problem p l a)
@@ -85,13 +80,13 @@ problem_from_response p l y a g area inside r =
 
 pub follower_proof_law : FollowerProofLaw
 follower_proof_law p l (Best y v) nodes g proof = record {
-    response = proof.response;
-    value = proof.value;
-    least = λ y' r.
-        tree_shows (λ a w. Proves (follower_problem p l a) (Some v) w) (λ x. IsResponse p l x → v ≤ℤ response_cost p x)
-        (λ a w x area closed inside r'. weak_duality (follower_problem p l a) v w x (problem_from_response p l x a g area inside r') closed (point_from_response p l x a inside r'))
-        nodes (follower_box p) (follower_box-area p g) proof.tree y' (response_in_box p l y' r) r;
-  }
+  response = proof.response;
+  value = proof.value;
+  least = λ y' r.
+      tree_shows (λ a w. Proves (follower_problem p l a) (Some v) w) (λ x. IsResponse p l x → v ≤ℤ response_cost p x)
+      (λ a w x area closed inside r'. weak_duality (follower_problem p l a) v w x (problem_from_response p l x a g area inside r') closed (point_from_response p l x a inside r'))
+      nodes (follower_box p) (follower_box-area p g) proof.tree y' (response_in_box p l y' r) r;
+}
 follower_proof_law p l NoResponse nodes g proof = λ y r.
     tree_shows (λ a w. Proves (follower_problem p l a) None w) (λ x. IsResponse p l x → ⊥)
     (λ a w x area closed inside r'. no_cutoff_no_point (follower_problem p l a) w x (problem_from_response p l x a g area inside r') closed (point_from_response p l x a inside r'))
@@ -99,26 +94,29 @@ follower_proof_law p l NoResponse nodes g proof = λ y r.
 
 pub follower_points : FollowerPoints
 follower_points p l y a g part = (
-    λ point. (point.inside, record {
-        ranges = record {
-            count = point.inside.columns ∙ part.columns ∙ length-map p.follower (λ k. entry p.lo k);
-            least = λ j b.
-                let c : j < length (values_at p.lo p.follower) = rw length-map b in
-                let h = part.least j c in
-                let k = point.inside.least j (rw part.columns c) in
-                let e = values_at-entry p.lo p.follower j b in
-                omega (arith, ints);
-            most = λ j b.
-                let c : j < length (values_at p.lo p.follower) = rw length-map b in
-                let h = part.most j c in
-                let k = point.inside.most j (rw part.columns c) in
-                let e = values_at-entry p.hi p.follower j b in
-                omega (arith, ints);
-          };
-        rows = λ i b low.
-            let m = row_of_follower p l (λ h. Meets h y) p.rows point.rows i b low in
-            let h = m.holds in
+  λ point. (
+    point.inside,
+    record {
+      ranges = record {
+        count = point.inside.columns ∙ part.columns ∙ length-map p.follower (λ k. entry p.lo k);
+        least = λ j b.
+            let c : j < length (values_at p.lo p.follower) = rw length-map b in
+            let h = part.least j c in
+            let k = point.inside.least j (rw part.columns c) in
+            let e = values_at-entry p.lo p.follower j b in
             omega (arith, ints);
-      }),
-    λ both. point_from_response p l y a both.0 both.1
-  )
+        most = λ j b.
+            let c : j < length (values_at p.lo p.follower) = rw length-map b in
+            let h = part.most j c in
+            let k = point.inside.most j (rw part.columns c) in
+            let e = values_at-entry p.hi p.follower j b in
+            omega (arith, ints);
+      };
+      rows = λ i b low.
+          let m = row_of_follower p l (λ h. Meets h y) p.rows point.rows i b low in
+          let h = m.holds in
+          omega (arith, ints);
+    },
+  ),
+  λ both. point_from_response p l y a both.0 both.1,
+)

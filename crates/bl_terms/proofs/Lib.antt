@@ -1,5 +1,11 @@
 pub mod PlaceLemmas
+pub mod TestLemmas
+pub mod ProgramLemmas
 pub mod ResponseLemmas
 pub mod TreeLemmas
 pub mod BoundLemmas
+pub mod BoundSizes
 pub mod FollowerProofLemmas
+pub mod EveryPointLemmas
+pub mod ExampleTests
+pub mod ExampleLemmas

@@ -1,25 +1,20 @@
 -- Lists of places: membership as a test, values at places, and values put at places.
-use Rattle.std.proofs.Common.{◌≡◌, ◌≢◌, ℕ, zero, suc, ◌+◌, ◌<◌, ◌≤◌, refl, sym, ◌∙◌, ap, subst, arith, Bool, true, false, ◌||◌, cond, List, [], ◌∷◌, length, ◌⊎◌, inl, inr, get_or}
-use Rattle.std.specs.Prelude.{ℤ, pos, ◌+ℤ◌, ◌*ℤ◌, nat_eq, slice_index, slice_set, Contains, map}
-use Rattle.std.proofs.lemmas.Bool.{eqb-true, eqb-false, cases_eq, cases_Bool}
+use Rattle.std.proofs.Common.{◌≡◌, ◌≢◌, ℕ, zero, suc, ◌<◌, refl, sym, ◌∙◌, ap, subst, arith, Bool, true, false, ◌||◌, cond, List, [], ◌∷◌, length, ◌⊎◌, inl, inr}
+use Rattle.std.specs.Prelude.{ℤ, pos, ◌+ℤ◌, ◌*ℤ◌, nat_eq, slice_index, slice_set, Contains}
+use Rattle.std.proofs.lemmas.Bool.{eqb-true, cases_Bool}
 use Rattle.std.proofs.lemmas.Bool.Decides.{nat_tests}
 use Rattle.std.proofs.lemmas.List.{length-map, get_or-map, get_or-set_same, get_or-set_other, length-set, get_or_default}
 use Rattle.std.specs.List.Sorted.{IsStrictlyIncreasing}
 use Rattle.std.proofs.lemmas.Int.{ints}
-use Rattle.bl_whole.specs.Sums.{entry, sum_below, dot}
-use Rattle.bl_whole.proofs.SumLemmas.{sum_over, sum_below-agree, sum_below-add, sum_below_picked, Contains-here, Contains-there, Contains-cases}
-use Rattle.bl_terms.specs.Points.{values_at}
-
--- k is among ks
-abbrev pub is_among : ℕ → List ℕ → Bool
-is_among k [] = false
-is_among k (j ∷ js) = nat_eq k j || is_among k js
+use Rattle.bl_whole.specs.Sums.{entry, sum_below, sum_over, dot}
+use Rattle.bl_whole.proofs.SumLemmas.{sum_below-agree, sum_below-add, sum_below_picked, Contains-here, Contains-there, Contains-cases}
+use Rattle.bl_terms.specs.Points.{values_at, is_among}
 
 pub among_from_Contains : (k : ℕ) (ks : List ℕ) → Contains ks k → is_among k ks ≡ true
 among_from_Contains k [] c = absurd (omega (arith, c.1))
 among_from_Contains k (j ∷ js) c =
     elim (Contains-cases j k js c) [
-        inl e ↦ grind (arith, nat_tests)
+      | inl e ↦ grind (arith, nat_tests)
       | inr c' ↦ let i = among_from_Contains k js c' in grind (arith, nat_tests)
     ]
 
@@ -35,7 +30,7 @@ Contains-from_among k (j ∷ js) h = by (λ g. Contains-from_among k js g) (nat_
 pub cases_Contains : (k : ℕ) (ks : List ℕ) → Contains ks k ⊎ (¬ Contains ks k)
 cases_Contains k ks =
     elim (cases_Bool (is_among k ks)) [
-        inl t ↦ inl (Contains-from_among k ks t)
+      | inl t ↦ inl (Contains-from_among k ks t)
       | inr f ↦ inr (λ c. let t = among_from_Contains k ks c in cc)
     ]
 
@@ -47,12 +42,16 @@ Contains-at ks j b = (j, b, get_or_default ks j (slice_index ks j) 0 b)
 pub place_of : (ks : List ℕ) (k : ℕ) → Contains ks k → (j : ℕ) × (j < length ks) × (slice_index ks j ≡ k)
 place_of ks k c = (c.0, c.1, get_or_default ks c.0 0 k c.1 ∙ c.2)
 
+-- the number at a place of a list of values
+pub values_at-entry : (z : List ℤ) (ks : List ℕ) (j : ℕ) → j < length ks → entry (values_at z ks) j ≡ entry z (slice_index ks j)
+values_at-entry z ks j b = get_or-map (λ k. entry z k) ks j 0 (pos 0) b
+
 -- the sum over ks of the products at its places
 pub dot-values_at : (c z : List ℤ) (ks : List ℕ) → dot (values_at c ks) (values_at z ks) ≡ sum_over ks (λ k. entry c k *ℤ entry z k)
 dot-values_at c z ks =
     rw (length-map ks (λ k. entry c k))
     (sum_below-agree (length ks) (λ j. entry (values_at c ks) j *ℤ entry (values_at z ks) j) (λ j. entry c (slice_index ks j) *ℤ entry z (slice_index ks j))
-        (λ j b. let e = get_or-map (λ k. entry c k) ks j 0 (pos 0) b in let f = get_or-map (λ k. entry z k) ks j 0 (pos 0) b in cc))
+    (λ j b. let e = values_at-entry c ks j b in let f = values_at-entry z ks j b in cc))
 
 -- zs with the numbers of ys at the places ks
 abbrev pub put_at : List ℕ → List ℤ → List ℤ → List ℤ
@@ -122,20 +121,20 @@ pub sum_below_two : (n : ℕ) (ks js : List ℕ) (f : ℕ → ℤ) → IsStrictl
     → ((k : ℕ) → k < n → ¬ Contains ks k → ¬ Contains js k → f k ≡ pos 0) → sum_below n f ≡ sum_over ks f +ℤ sum_over js f
 sum_below_two n ks js f rise rise' below below' apart rest =
     let parts : sum_below n f ≡ sum_below n (λ k. inside ks f k +ℤ outside ks f k) =
-        sum_below-agree n f (λ k. inside ks f k +ℤ outside ks f k) (λ k b. inside-outside ks f k) in
+    sum_below-agree n f (λ k. inside ks f k +ℤ outside ks f k) (λ k b. inside-outside ks f k) in
     let added : sum_below n (λ k. inside ks f k +ℤ outside ks f k) ≡ sum_below n (inside ks f) +ℤ sum_below n (outside ks f) =
-        sum_below-add n (inside ks f) (outside ks f) in
+    sum_below-add n (inside ks f) (outside ks f) in
     let first : sum_below n (inside ks f) ≡ sum_over ks (inside ks f) =
-        sum_below_picked n ks (inside ks f) rise below (λ k b absent. inside-none ks f k absent) in
+    sum_below_picked n ks (inside ks f) rise below (λ k b absent. inside-none ks f k absent) in
     let second : sum_below n (outside ks f) ≡ sum_over js (outside ks f) =
-        sum_below_picked n js (outside ks f) rise' below'
-        (λ k b absent. elim (cases_Contains k ks) [
-            inl m ↦ outside-some ks f k m
-          | inr absent' ↦ outside-none ks f k absent' ∙ rest k b absent' absent
-        ]) in
+    sum_below_picked n js (outside ks f) rise' below'
+    (λ k b absent. elim (cases_Contains k ks) [
+      | inl m ↦ outside-some ks f k m
+      | inr absent' ↦ outside-none ks f k absent' ∙ rest k b absent' absent
+    ]) in
     let same : sum_over ks (inside ks f) ≡ sum_over ks f =
-        sum_below-agree (length ks) (λ j. inside ks f (slice_index ks j)) (λ j. f (slice_index ks j)) (λ j b. inside-some ks f (slice_index ks j) (Contains-at ks j b)) in
+    sum_below-agree (length ks) (λ j. inside ks f (slice_index ks j)) (λ j. f (slice_index ks j)) (λ j b. inside-some ks f (slice_index ks j) (Contains-at ks j b)) in
     let same' : sum_over js (outside ks f) ≡ sum_over js f =
-        sum_below-agree (length js) (λ j. outside ks f (slice_index js j)) (λ j. f (slice_index js j))
-        (λ j b. outside-none ks f (slice_index js j) (apart (slice_index js j) (Contains-at js j b))) in
+    sum_below-agree (length js) (λ j. outside ks f (slice_index js j)) (λ j. f (slice_index js j))
+    (λ j b. outside-none ks f (slice_index js j) (apart (slice_index js j) (Contains-at js j b))) in
     cc

@@ -1,17 +1,16 @@
 -- Points against responses, and the laws of true entries.
-use Rattle.std.proofs.Common.{◌≡◌, ◌≢◌, ℕ, zero, suc, ◌+◌, ◌<◌, ◌≤◌, refl, sym, ◌∙◌, ap, subst, arith, Bool, true, false, cond, List, [], ◌∷◌, length, ◌⊎◌, inl, inr}
-use Rattle.std.specs.Prelude.{ℤ, pos, negsuc, ◌+ℤ◌, ◌*ℤ◌, ◌≤ℤ◌, slice_index, Contains, map, IsTrue}
+use Rattle.std.proofs.Common.{◌≡◌, ◌≢◌, ℕ, zero, suc, ◌<◌, refl, sym, ◌∙◌, ap, subst, arith, List, length, ◌⊎◌, inl, inr}
+use Rattle.std.specs.Prelude.{ℤ, pos, negsuc, ◌+ℤ◌, ◌*ℤ◌, ◌≤ℤ◌, slice_index, Contains, IsTrue}
 use Rattle.std.proofs.Math.IntN.{zero-*ℤ}
 use Rattle.std.proofs.lemmas.Int.{ints}
-use Rattle.std.proofs.lemmas.Bool.{cases_Bool}
-use Rattle.std.proofs.lemmas.List.{length-map, get_or-map, ext_get_or}
-use Rattle.bl_whole.specs.Sums.{entry, sum_below, dot}
-use Rattle.bl_whole.proofs.SumLemmas.{sum_over, sum_below-agree, sum_below-add, sum_below_picked, rising_pairs}
-use Rattle.bl_terms.specs.Points.{Linear, Meets, InArea, values_at}
-use Rattle.bl_terms.specs.Programs.{Program, Row, columns, root, row_at, inequality, In, Rows, Lower, IsLeader, IsLinking, IsProgram, SameLead, link_of, response_of, cost_at, follower_at}
+use Rattle.std.proofs.lemmas.List.{length-map, ext_get_or}
+use Rattle.bl_whole.specs.Sums.{entry, sum_over, dot}
+use Rattle.bl_whole.proofs.SumLemmas.{sum_below_picked, rising_pairs}
+use Rattle.bl_terms.specs.Points.{values_at}
+use Rattle.bl_terms.specs.Programs.{Program, columns, row_at, In, Rows, Lower, IsLeader, IsProgram, SameLead, link_of, response_of, follower_at}
 use Rattle.bl_terms.specs.Feasible.{BilevelFeasible}
-use Rattle.bl_terms.specs.Responses.{InRanges, IsLink, left_side, IsResponse, response_cost, IsBest, Entry, Best, NoResponse, IsTrueEntry, IsFollowerOptimum, OptimumOfLink, EntryIsOptimum, NoResponseNoPoint, EntryLaw}
-use Rattle.bl_terms.proofs.PlaceLemmas.{is_among, among_from_Contains, Contains-from_among, cases_Contains, Contains-at, place_of, dot-values_at, put_at, length-put_at, put_at-other, put_at-same, sum_below_two}
+use Rattle.bl_terms.specs.Responses.{InRanges, left_side, IsResponse, response_cost, IsBest, IsFollowerOptimum, OptimumOfLink, EntryIsOptimum, NoResponseNoPoint, EntryLaw}
+use Rattle.bl_terms.proofs.PlaceLemmas.{values_at-entry, cases_Contains, Contains-at, place_of, dot-values_at, put_at, length-put_at, put_at-other, put_at-same, sum_below_two}
 
 -- a linking column is the leader's, and no column of the follower
 link_leads : (p : Program) → IsProgram p → (k : ℕ) → Contains p.links k → IsLeader p k
@@ -27,11 +26,11 @@ split_dot : (p : Program) (c z : List ℤ) → IsProgram p → length c ≡ colu
 split_dot p c z g e rest =
     let f : ℕ → ℤ = λ k. entry c k *ℤ entry z k in
     let sums : dot c z ≡ sum_over p.links (λ k. entry c k *ℤ entry z k) +ℤ sum_over p.follower (λ k. entry c k *ℤ entry z k) =
-        sum_below_two (length c) p.links p.follower (λ k. entry c k *ℤ entry z k) g.linking.rising g.follower_rising
-        (λ k m. let b = (link_leads p g k m).column in omega arith)
-        (λ k m. let b = g.follower_below k m in omega arith)
-        (λ k m m'. (link_leads p g k m').leads m)
-        (λ k b absent absent'. let z0 = rest k (leads p k (omega arith) absent') absent in rw z0 (zero-*ℤ (entry z k))) in
+    sum_below_two (length c) p.links p.follower (λ k. entry c k *ℤ entry z k) g.linking.rising g.follower_rising
+    (λ k m. let b = (link_leads p g k m).column in omega arith)
+    (λ k m. let b = g.follower_below k m in omega arith)
+    (λ k m m'. (link_leads p g k m').leads m)
+    (λ k b absent absent'. let z0 = rest k (leads p k (omega arith) absent') absent in rw z0 (zero-*ℤ (entry z k))) in
     let links = dot-values_at c z p.links in
     let follower = dot-values_at c z p.follower in
     cc
@@ -47,7 +46,7 @@ lower_free : (p : Program) → IsProgram p → (i : ℕ) → i < length p.rows �
     → (k : ℕ) → IsLeader p k → ¬ Contains p.links k → entry (row_at p.rows i).coef k ≡ pos 0
 lower_free p g i b lower k leader absent =
     elim (cases_zero (entry (row_at p.rows i).coef k)) [
-        inl e ↦ e
+      | inl e ↦ e
       | inr ne ↦ absurd (absent ((g.linking.exact k).1 (leader, (i, b, lower, ne))))
     ]
 
@@ -60,26 +59,26 @@ row_split p z g i b lower = split_dot p (row_at p.rows i).coef z g (g.row_column
 pub cost_split : (p : Program) (z : List ℤ) → IsProgram p → follower_at p z ≡ response_cost p (response_of p z)
 cost_split p z g =
     let sum : follower_at p z ≡ sum_over p.follower (λ k. entry p.follower_cost k *ℤ entry z k) =
-        sum_below_picked (length p.follower_cost) p.follower (λ k. entry p.follower_cost k *ℤ entry z k) g.follower_rising
-        (λ k m. let b = g.follower_below k m in let e = g.follower_cost_columns in omega arith)
-        (λ k b absent. let z0 = g.leader_free k (leads p k (let e = g.follower_cost_columns in omega arith) absent) in rw z0 (zero-*ℤ (entry z k))) in
+    sum_below_picked (length p.follower_cost) p.follower (λ k. entry p.follower_cost k *ℤ entry z k) g.follower_rising
+    (λ k m. let b = g.follower_below k m in let e = g.follower_cost_columns in omega arith)
+    (λ k b absent. let z0 = g.leader_free k (leads p k (let e = g.follower_cost_columns in omega arith) absent) in rw z0 (zero-*ℤ (entry z k))) in
     let e = dot-values_at p.follower_cost z p.follower in
     cc
 
 -- the values of a point of the box on given columns lie in their ranges
 values_in_ranges : (p : Program) (z : List ℤ) (ks : List ℕ) → ((k : ℕ) → Contains ks k → k < columns p) → In p z → InRanges p ks (values_at z ks)
 values_in_ranges p z ks below inside = record {
-    count = length-map ks (λ k. entry z k);
-    least = λ j b. let e = get_or-map (λ k. entry z k) ks j 0 (pos 0) b in rw e (inside.least (slice_index ks j) (below (slice_index ks j) (Contains-at ks j b)));
-    most = λ j b. let e = get_or-map (λ k. entry z k) ks j 0 (pos 0) b in rw e (inside.most (slice_index ks j) (below (slice_index ks j) (Contains-at ks j b)));
-  }
+  count = length-map ks (λ k. entry z k);
+  least = λ j b. let e = values_at-entry z ks j b in rw e (inside.least (slice_index ks j) (below (slice_index ks j) (Contains-at ks j b)));
+  most = λ j b. let e = values_at-entry z ks j b in rw e (inside.most (slice_index ks j) (below (slice_index ks j) (Contains-at ks j b)));
+}
 
 -- a point of the box that meets the follower's rows has a response to its link
 pub response_from_point : (p : Program) (z : List ℤ) → IsProgram p → In p z → Lower p z → IsResponse p (link_of p z) (response_of p z)
 response_from_point p z g inside lower = record {
-    ranges = values_in_ranges p z p.follower g.follower_below inside;
-    rows = λ i b low. let e = row_split p z g i b low in let h = (lower.each i b low).holds in omega (arith, ints);
-  }
+  ranges = values_in_ranges p z p.follower g.follower_below inside;
+  rows = λ i b low. let e = row_split p z g i b low in let h = (lower.each i b low).holds in omega (arith, ints);
+}
 
 -- z with the response y put in
 abbrev pub with_response : Program → List ℤ → List ℤ → List ℤ
@@ -95,7 +94,7 @@ with_response-response : (p : Program) (z y : List ℤ) → IsProgram p → leng
 with_response-response p z y g e e' =
     ext_get_or (pos 0) (response_of p (with_response p z y)) y (length-map p.follower (λ k. entry (with_response p z y) k) ∙ sym e')
     (λ j b. let b' : j < length p.follower = rw length-map at b in
-        get_or-map (λ k. entry (with_response p z y) k) p.follower j 0 (pos 0) b' ∙ with_response-same p z y g e e' j b')
+    values_at-entry (with_response p z y) p.follower j b' ∙ with_response-same p z y g e e' j b')
 
 with_response-lead : (p : Program) (z y : List ℤ) → SameLead p z (with_response p z y)
 with_response-lead p z y = record { agree = λ k leader. sym (put_at-other p.follower y z k leader.leads) }
@@ -105,9 +104,9 @@ pub link_from_lead : (p : Program) (z z' : List ℤ) → IsProgram p → SameLea
 link_from_lead p z z' g same =
     ext_get_or (pos 0) (link_of p z) (link_of p z') (length-map p.links (λ k. entry z k) ∙ sym (length-map p.links (λ k. entry z' k)))
     (λ j b. let b' : j < length p.links = rw length-map at b in
-        get_or-map (λ k. entry z k) p.links j 0 (pos 0) b'
-        ∙ same.agree (slice_index p.links j) (link_leads p g (slice_index p.links j) (Contains-at p.links j b'))
-        ∙ sym (get_or-map (λ k. entry z' k) p.links j 0 (pos 0) b'))
+    values_at-entry z p.links j b'
+    ∙ same.agree (slice_index p.links j) (link_leads p g (slice_index p.links j) (Contains-at p.links j b'))
+    ∙ sym (values_at-entry z' p.links j b'))
 
 -- what holds of each of the follower's columns by its place holds of it by its number
 at_follower : (p : Program) (P : ℕ → Type 0) → ((j : ℕ) → j < length p.follower → P (slice_index p.follower j)) → (k : ℕ) → Contains p.follower k → P k
@@ -116,33 +115,33 @@ at_follower p P h k m = let q = place_of p.follower k m in subst P q.2 (h q.0 q.
 -- a response put into a point of the box with its link is a point of the box that meets the follower's rows
 with_response-in : (p : Program) (z y : List ℤ) → IsProgram p → In p z → InRanges p p.follower y → In p (with_response p z y)
 with_response-in p z y g inside ranges = record {
-    columns = length-put_at p.follower y z ∙ inside.columns;
-    least = λ k b. elim (cases_Contains k p.follower) [
-        inl m ↦ at_follower p (λ x. entry p.lo x ≤ℤ entry (with_response p z y) x)
-            (λ j b'. let e = with_response-same p z y g inside.columns ranges.count j b' in rw e (ranges.least j b')) k m
-      | inr absent ↦ rw (put_at-other p.follower y z k absent) (inside.least k b)
-    ];
-    most = λ k b. elim (cases_Contains k p.follower) [
-        inl m ↦ at_follower p (λ x. entry (with_response p z y) x ≤ℤ entry p.hi x)
-            (λ j b'. let e = with_response-same p z y g inside.columns ranges.count j b' in rw e (ranges.most j b')) k m
-      | inr absent ↦ rw (put_at-other p.follower y z k absent) (inside.most k b)
-    ];
-  }
+  columns = length-put_at p.follower y z ∙ inside.columns;
+  least = λ k b. elim (cases_Contains k p.follower) [
+    | inl m ↦ at_follower p (λ x. entry p.lo x ≤ℤ entry (with_response p z y) x)
+        (λ j b'. let e = with_response-same p z y g inside.columns ranges.count j b' in rw e (ranges.least j b')) k m
+    | inr absent ↦ rw (put_at-other p.follower y z k absent) (inside.least k b)
+  ];
+  most = λ k b. elim (cases_Contains k p.follower) [
+    | inl m ↦ at_follower p (λ x. entry (with_response p z y) x ≤ℤ entry p.hi x)
+        (λ j b'. let e = with_response-same p z y g inside.columns ranges.count j b' in rw e (ranges.most j b')) k m
+    | inr absent ↦ rw (put_at-other p.follower y z k absent) (inside.most k b)
+  ];
+}
 
 with_response-link : (p : Program) (z y : List ℤ) → IsProgram p → link_of p (with_response p z y) ≡ link_of p z
 with_response-link p z y g = sym (link_from_lead p z (with_response p z y) g (with_response-lead p z y))
 
 with_response-lower : (p : Program) (z y : List ℤ) → IsProgram p → In p z → IsResponse p (link_of p z) y → Lower p (with_response p z y)
 with_response-lower p z y g inside r = record {
-    each = λ i b low.
-        let s = row_split p (with_response p z y) g i b low in
-        let e = with_response-link p z y g in
-        let f = with_response-response p z y g inside.columns r.ranges.count in
-        let same : left_side p (row_at p.rows i) (link_of p (with_response p z y)) (response_of p (with_response p z y)) ≡ left_side p (row_at p.rows i) (link_of p z) y =
-            ap (λ l. left_side p (row_at p.rows i) l (response_of p (with_response p z y))) e ∙ ap (λ x. left_side p (row_at p.rows i) (link_of p z) x) f in
-        let h = r.rows i b low in
-        record { holds = omega (arith, ints) };
-  }
+  each = λ i b low.
+      let s = row_split p (with_response p z y) g i b low in
+      let e = with_response-link p z y g in
+      let f = with_response-response p z y g inside.columns r.ranges.count in
+      let same : left_side p (row_at p.rows i) (link_of p (with_response p z y)) (response_of p (with_response p z y)) ≡ left_side p (row_at p.rows i) (link_of p z) y =
+      ap (λ l. left_side p (row_at p.rows i) l (response_of p (with_response p z y))) e ∙ ap (λ x. left_side p (row_at p.rows i) (link_of p z) x) f in
+      let h = r.rows i b low in
+      record { holds = omega (arith, ints) };
+}
 
 with_response-cost : (p : Program) (z y : List ℤ) → IsProgram p → In p z → IsResponse p (link_of p z) y → follower_at p (with_response p z y) ≡ response_cost p y
 with_response-cost p z y g inside r =
@@ -158,27 +157,29 @@ response_at p z z' g inside lower same =
 
 pub entry_is_optimum : EntryIsOptimum
 entry_is_optimum p z y v g inside best = record {
-    reached =
-        (with_response p z y, with_response-in p z y g inside best.response.ranges, with_response-lower p z y g inside best.response, with_response-lead p z y, with_response-cost p z y g inside best.response ∙ best.value);
-    least = λ z' i l s. let h = best.least (response_of p z') (response_at p z z' g i l s) in rw (cost_split p z' g) h;
-  }
+  reached =
+      (with_response p z y, with_response-in p z y g inside best.response.ranges, with_response-lower p z y g inside best.response, with_response-lead p z y, with_response-cost p z y g inside best.response ∙ best.value);
+  least = λ z' i l s. let h = best.least (response_of p z') (response_at p z z' g i l s) in rw (cost_split p z' g) h;
+}
 
 pub no_response_no_point : NoResponseNoPoint
 no_response_no_point p z g inside none lower = none (response_of p z) (response_from_point p z g inside lower)
 
 best_from_optimum : (p : Program) (z : List ℤ) (v : ℤ) → IsProgram p → In p z → IsFollowerOptimum p z v → (y : List ℤ) × IsBest p (link_of p z) y v
-best_from_optimum p z v g inside o =
-    (response_of p o.reached.0, record {
-        response = response_at p z o.reached.0 g o.reached.1 o.reached.2 o.reached.3;
-        value = sym (cost_split p o.reached.0 g) ∙ o.reached.4;
-        least = λ y r.
-            let h = o.least (with_response p z y) (with_response-in p z y g inside r.ranges) (with_response-lower p z y g inside r) (with_response-lead p z y) in
-            let e = with_response-cost p z y g inside r in
-            omega (arith, ints);
-      })
+best_from_optimum p z v g inside o = (
+  response_of p o.reached.0,
+  record {
+    response = response_at p z o.reached.0 g o.reached.1 o.reached.2 o.reached.3;
+    value = sym (cost_split p o.reached.0 g) ∙ o.reached.4;
+    least = λ y r.
+        let h = o.least (with_response p z y) (with_response-in p z y g inside r.ranges) (with_response-lower p z y g inside r) (with_response-lead p z y) in
+        let e = with_response-cost p z y g inside r in
+        omega (arith, ints);
+  },
+)
 
 pub optimum_of_link : OptimumOfLink
-optimum_of_link p z z' v g inside inside' same o = 
+optimum_of_link p z z' v g inside inside' same o =
     let b = best_from_optimum p z v g inside o in
     let P : List ℤ → Type 0 = λ l. IsBest p l b.0 v in
     entry_is_optimum p z' b.0 v g inside' (subst P same b.1)
@@ -191,18 +192,18 @@ entry_law p z y v g inside rows best =
     let own = best.least (response_of p z) (response_from_point p z g inside (lower_from_rows p z rows)) in
     let cost = cost_split p z g in
     let high : BilevelFeasible p z → follower_at p z ≤ℤ v =
-        λ f.
-            let h = f.least (with_response p z y) (with_response-in p z y g inside best.response.ranges) (with_response-lower p z y g inside best.response) (with_response-lead p z y) in
-            let e = with_response-cost p z y g inside best.response in
-            let e' = best.value in
-            omega (arith, ints) in
+    λ f.
+    let h = f.least (with_response p z y) (with_response-in p z y g inside best.response.ranges) (with_response-lower p z y g inside best.response) (with_response-lead p z y) in
+    let e = with_response-cost p z y g inside best.response in
+    let e' = best.value in
+    omega (arith, ints) in
     let back : follower_at p z ≤ℤ v → BilevelFeasible p z =
-        λ h. record {
-            inside = inside;
-            rows = rows;
-            least = λ z' i l s.
-                let b = best.least (response_of p z') (response_at p z z' g i l s) in
-                let e = cost_split p z' g in
-                omega (arith, ints);
-          } in
+    λ h. record {
+      inside = inside;
+      rows = rows;
+      least = λ z' i l s.
+          let b = best.least (response_of p z') (response_at p z z' g i l s) in
+          let e = cost_split p z' g in
+          omega (arith, ints);
+    } in
     ((λ f. let h = high f in omega (arith, ints), λ e. back (omega (arith, ints))), (high, back))

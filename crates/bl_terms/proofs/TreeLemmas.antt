@@ -1,39 +1,40 @@
 -- Trees over boxes: their leaves share out the points of the box.
-use Rattle.std.proofs.Common.{◌≡◌, ◌≢◌, ℕ, zero, suc, ◌+◌, ◌*◌, ◌<◌, ◌≤◌, refl, sym, ◌∙◌, ap, subst, arith, List, [], ◌∷◌, length, ◌⊎◌, inl, inr}
-use Rattle.std.specs.Prelude.{ℤ, pos, negsuc, ◌+ℤ◌, ◌-ℤ◌, ◌≤ℤ◌, ◌<ℤ◌, slice_set, unsigned_abs}
+use Rattle.std.proofs.Common.{◌≡◌, ◌≢◌, ℕ, zero, suc, ◌+◌, ◌*◌, ◌<◌, ◌≤◌, refl, sym, ◌∙◌, subst, arith, List, [], ◌∷◌, length, inl, inr}
+use Rattle.std.specs.Prelude.{ℤ, pos, ◌+ℤ◌, ◌-ℤ◌, ◌≤ℤ◌, ◌<ℤ◌, slice_set}
 use Rattle.std.proofs.lemmas.Int.{ints, by_lt_z}
 use Rattle.std.proofs.lemmas.Bool.{cases_eq, cases_lt}
 use Rattle.std.proofs.lemmas.List.{get_or-set_same, get_or-set_other, length-set}
 use Rattle.std.proofs.lemmas.Nat.{mul-le}
 use Rattle.std.proofs.Math.Nat.{add-mul, mul-add}
 use Rattle.bl_whole.specs.Sums.{entry}
+use Rattle.bl_terms.proofs.TestLemmas.{pos-unsigned_abs}
 use Rattle.bl_terms.specs.Points.{Area, IsArea, InArea}
-use Rattle.bl_terms.specs.Trees.{Node, Leaf, Split, low_half, high_half, CanSplit, Covers, IsTree, leaf_boxes, area_at, product_below, width_at, point_count, EachPointInOneLeaf, LeavesAreParts, LeavesAtMostPoints}
+use Rattle.bl_terms.specs.Trees.{Node, Leaf, Split, low_half, high_half, CanSplit, Covers, leaf_boxes, area_at, product_below, width_at, point_count, EachPointInOneLeaf, LeavesAreParts, LeavesAtMostPoints}
 
 -- ---- the halves of a box
 
 -- a point of the box is a point of the half that its number in column j says
 in_low : (a : Area) (j : ℕ) (v : ℤ) (z : List ℤ) → CanSplit a j v → length a.hi ≡ length a.lo → InArea a z → entry z j ≤ℤ v → InArea (low_half a j v) z
 in_low a j v z s e inside h = record {
-    columns = inside.columns;
-    least = inside.least;
-    most = λ k b. elim (cases_eq k j) [
-        inl same ↦ let P : ℕ → Type 0 = λ x. entry z x ≤ℤ entry (slice_set a.hi j v) x in
-            subst P (sym same) (rw (get_or-set_same a.hi j v (pos 0) (let c = s.column in omega arith)) h)
-      | inr other ↦ rw (get_or-set_other a.hi j k v (pos 0) other) (inside.most k b)
-    ];
-  }
+  columns = inside.columns;
+  least = inside.least;
+  most = λ k b. elim (cases_eq k j) [
+    | inl same ↦ let P : ℕ → Type 0 = λ x. entry z x ≤ℤ entry (slice_set a.hi j v) x in
+        subst P (sym same) (rw (get_or-set_same a.hi j v (pos 0) (let c = s.column in omega arith)) h)
+    | inr other ↦ rw (get_or-set_other a.hi j k v (pos 0) other) (inside.most k b)
+  ];
+}
 
 in_high : (a : Area) (j : ℕ) (v : ℤ) (z : List ℤ) → CanSplit a j v → InArea a z → v <ℤ entry z j → InArea (high_half a j v) z
 in_high a j v z s inside h = record {
-    columns = inside.columns ∙ sym (length-set a.lo j (v +ℤ pos 1));
-    least = λ k b. elim (cases_eq k j) [
-        inl same ↦ let P : ℕ → Type 0 = λ x. entry (slice_set a.lo j (v +ℤ pos 1)) x ≤ℤ entry z x in
-            subst P (sym same) (rw (get_or-set_same a.lo j (v +ℤ pos 1) (pos 0) s.column) (omega (arith, ints)))
-      | inr other ↦ rw (get_or-set_other a.lo j k (v +ℤ pos 1) (pos 0) other) (inside.least k (rw length-set at b))
-    ];
-    most = λ k b. inside.most k (rw length-set at b);
-  }
+  columns = inside.columns ∙ sym (length-set a.lo j (v +ℤ pos 1));
+  least = λ k b. elim (cases_eq k j) [
+    | inl same ↦ let P : ℕ → Type 0 = λ x. entry (slice_set a.lo j (v +ℤ pos 1)) x ≤ℤ entry z x in
+        subst P (sym same) (rw (get_or-set_same a.lo j (v +ℤ pos 1) (pos 0) s.column) (omega (arith, ints)))
+    | inr other ↦ rw (get_or-set_other a.lo j k (v +ℤ pos 1) (pos 0) other) (inside.least k (rw length-set at b))
+  ];
+  most = λ k b. inside.most k (rw length-set at b);
+}
 
 -- a point of a half has a number on its side, and is a point of the box
 low_side : (a : Area) (j : ℕ) (v : ℤ) (z : List ℤ) → CanSplit a j v → length a.hi ≡ length a.lo → InArea (low_half a j v) z → entry z j ≤ℤ v
@@ -49,25 +50,25 @@ high_side a j v z s inside =
 
 from_low : (a : Area) (j : ℕ) (v : ℤ) (z : List ℤ) → CanSplit a j v → length a.hi ≡ length a.lo → InArea (low_half a j v) z → InArea a z
 from_low a j v z s e inside = record {
-    columns = inside.columns;
-    least = inside.least;
-    most = λ k b. elim (cases_eq k j) [
-        inl same ↦ let P : ℕ → Type 0 = λ x. entry z x ≤ℤ entry a.hi x in
-            let h = low_side a j v z s e inside in let l = s.below in subst P (sym same) (omega (arith, ints))
-      | inr other ↦ let h = inside.most k b in rw (get_or-set_other a.hi j k v (pos 0) other) at h
-    ];
-  }
+  columns = inside.columns;
+  least = inside.least;
+  most = λ k b. elim (cases_eq k j) [
+    | inl same ↦ let P : ℕ → Type 0 = λ x. entry z x ≤ℤ entry a.hi x in
+        let h = low_side a j v z s e inside in let l = s.below in subst P (sym same) (omega (arith, ints))
+    | inr other ↦ let h = inside.most k b in rw (get_or-set_other a.hi j k v (pos 0) other) at h
+  ];
+}
 
 from_high : (a : Area) (j : ℕ) (v : ℤ) (z : List ℤ) → CanSplit a j v → InArea (high_half a j v) z → InArea a z
 from_high a j v z s inside = record {
-    columns = inside.columns ∙ length-set a.lo j (v +ℤ pos 1);
-    least = λ k b. elim (cases_eq k j) [
-        inl same ↦ let P : ℕ → Type 0 = λ x. entry a.lo x ≤ℤ entry z x in
-            let h = high_side a j v z s inside in let l = s.least in subst P (sym same) (omega (arith, ints))
-      | inr other ↦ let h = inside.least k (rw length-set b) in rw (get_or-set_other a.lo j k (v +ℤ pos 1) (pos 0) other) at h
-    ];
-    most = λ k b. inside.most k (rw length-set b);
-  }
+  columns = inside.columns ∙ length-set a.lo j (v +ℤ pos 1);
+  least = λ k b. elim (cases_eq k j) [
+    | inl same ↦ let P : ℕ → Type 0 = λ x. entry a.lo x ≤ℤ entry z x in
+        let h = high_side a j v z s inside in let l = s.least in subst P (sym same) (omega (arith, ints))
+    | inr other ↦ let h = inside.least k (rw length-set b) in rw (get_or-set_other a.lo j k (v +ℤ pos 1) (pos 0) other) at h
+  ];
+  most = λ k b. inside.most k (rw length-set b);
+}
 
 -- ---- each point in one leaf
 
@@ -153,41 +154,41 @@ one_leaf (Leaf x ∷ ns) (a ∷ stack) z sides covers one (suc i) zero b b' h h'
     absurd (omega arith)
 one_leaf (Leaf x ∷ ns) (a ∷ stack) z sides covers one (suc i) (suc i') b b' h h' =
     let q = one_leaf ns stack z sides.1 covers.1
-            (λ m m' c c' k k'. let e = one (suc m) (suc m') (omega arith) (omega arith) k k' in omega arith) i i' (omega arith) (omega arith) h h' in
+    (λ m m' c c' k k'. let e = one (suc m) (suc m') (omega arith) (omega arith) k k' in omega arith) i i' (omega arith) (omega arith) h h' in
     omega arith
 one_leaf (Split j v ∷ ns) (a ∷ stack) z sides covers one i i' b b' h h' =
     one_leaf ns (low_half a j v ∷ high_half a j v ∷ stack) z (halves_have_sides a j v stack sides) covers.1
     (halves_apart a j v stack z covers.0 sides.0 one) i i' b b' h h'
 
-pub each_point_in_one_leaf : EachPointInOneLeaf
+pub each_point_in_one_leaf : {L : Type 0} → EachPointInOneLeaf L
 each_point_in_one_leaf nodes a z tree e inside =
     let r = some_leaf nodes (a ∷ []) z (e, tt) tree 0 (omega arith) inside in
     let one = one_leaf nodes (a ∷ []) z (e, tt) tree
-            (λ m m' c c' h h'. omega arith) in
+    (λ m m' c c' h h'. omega arith) in
     (r.0, r.1, r.2, λ i' b h. one i' r.0 b r.1 h r.2)
 
 -- ---- the boxes of leaves are parts
 
 low_area : (a : Area) (j : ℕ) (v : ℤ) → CanSplit a j v → IsArea a → IsArea (low_half a j v)
 low_area a j v s g = record {
-    sides = length-set a.hi j v ∙ g.sides;
-    ordered = λ k b. elim (cases_eq k j) [
-        inl same ↦ let P : ℕ → Type 0 = λ x. entry a.lo x ≤ℤ entry (slice_set a.hi j v) x in
-            subst P (sym same) (rw (get_or-set_same a.hi j v (pos 0) (let c = s.column in let e = g.sides in omega arith)) s.least)
-      | inr other ↦ rw (get_or-set_other a.hi j k v (pos 0) other) (g.ordered k b)
-    ];
-  }
+  sides = length-set a.hi j v ∙ g.sides;
+  ordered = λ k b. elim (cases_eq k j) [
+    | inl same ↦ let P : ℕ → Type 0 = λ x. entry a.lo x ≤ℤ entry (slice_set a.hi j v) x in
+        subst P (sym same) (rw (get_or-set_same a.hi j v (pos 0) (let c = s.column in let e = g.sides in omega arith)) s.least)
+    | inr other ↦ rw (get_or-set_other a.hi j k v (pos 0) other) (g.ordered k b)
+  ];
+}
 
 high_area : (a : Area) (j : ℕ) (v : ℤ) → CanSplit a j v → IsArea a → IsArea (high_half a j v)
 high_area a j v s g = record {
-    sides = g.sides ∙ sym (length-set a.lo j (v +ℤ pos 1));
-    ordered = λ k b. elim (cases_eq k j) [
-        inl same ↦ let P : ℕ → Type 0 = λ x. entry (slice_set a.lo j (v +ℤ pos 1)) x ≤ℤ entry a.hi x in
-            let h = s.below in
-            subst P (sym same) (rw (get_or-set_same a.lo j (v +ℤ pos 1) (pos 0) s.column) (omega (arith, ints)))
-      | inr other ↦ rw (get_or-set_other a.lo j k (v +ℤ pos 1) (pos 0) other) (g.ordered k (rw length-set at b))
-    ];
-  }
+  sides = g.sides ∙ sym (length-set a.lo j (v +ℤ pos 1));
+  ordered = λ k b. elim (cases_eq k j) [
+    | inl same ↦ let P : ℕ → Type 0 = λ x. entry (slice_set a.lo j (v +ℤ pos 1)) x ≤ℤ entry a.hi x in
+        let h = s.below in
+        subst P (sym same) (rw (get_or-set_same a.lo j (v +ℤ pos 1) (pos 0) s.column) (omega (arith, ints)))
+    | inr other ↦ rw (get_or-set_other a.lo j k (v +ℤ pos 1) (pos 0) other) (g.ordered k (rw length-set at b))
+  ];
+}
 
 abbrev AreAreas : List Area → Type 0
 AreAreas [] = Unit {0}
@@ -206,10 +207,11 @@ leaves_are_areas (Leaf x ∷ ns) (a ∷ stack) g covers (suc i) b = leaves_are_a
 leaves_are_areas (Split j v ∷ ns) (a ∷ stack) g covers i b =
     leaves_are_areas ns (low_half a j v ∷ high_half a j v ∷ stack) (low_area a j v covers.0 g.0, (high_area a j v covers.0 g.0, g.1)) covers.1 i b
 
-pub leaves_are_parts : LeavesAreParts
-leaves_are_parts nodes a i tree g b =
-    (leaves_are_areas nodes (a ∷ []) (g, tt) tree i b,
-    λ z inside. only (some_box nodes (a ∷ []) z (g.sides, tt) tree i b inside))
+pub leaves_are_parts : {L : Type 0} → LeavesAreParts L
+leaves_are_parts nodes a i tree g b = (
+  leaves_are_areas nodes (a ∷ []) (g, tt) tree i b,
+  λ z inside. only (some_box nodes (a ∷ []) z (g.sides, tt) tree i b inside),
+)
   where
     only : {z : List ℤ} → (m : ℕ) × (m < length (a ∷ [])) × InArea (area_at (a ∷ []) m) z → InArea a z
     only (zero, c, h) = h
@@ -257,29 +259,25 @@ product_below-split : (n j : ℕ) (f g h : ℕ → ℕ) → j < n → ((k : ℕ)
 product_below-split zero j f g h b eg eh e = absurd (omega arith)
 product_below-split (suc n) j f g h b eg eh e =
     elim (cases_lt j n) [
-        inl c ↦
-            let i = product_below-split n j f g h c (λ k b' ne. eg k (omega arith) ne) (λ k b' ne. eh k (omega arith) ne) e in
-            let g' = eg n (omega arith) (omega arith) in
-            let h' = eh n (omega arith) (omega arith) in
-            let d = add-mul (product_below n g) (product_below n h) (f n) in
-            cc
+      | inl c ↦
+          let i = product_below-split n j f g h c (λ k b' ne. eg k (omega arith) ne) (λ k b' ne. eh k (omega arith) ne) e in
+          let g' = eg n (omega arith) (omega arith) in
+          let h' = eh n (omega arith) (omega arith) in
+          let d = add-mul (product_below n g) (product_below n h) (f n) in
+          cc
       | inr c ↦
-            let same : j ≡ n = omega arith in
-            let g' = product_below-agree n g f (λ k b' . eg k (omega arith) (omega arith)) in
-            let h' = product_below-agree n h f (λ k b' . eh k (omega arith) (omega arith)) in
-            let P : ℕ → Type 0 = λ x. g x + h x ≡ f x in
-            let e' = subst P same e in
-            let d = mul-add (product_below n f) (g n) (h n) in
-            cc
+          let same : j ≡ n = omega arith in
+          let g' = product_below-agree n g f (λ k b'. eg k (omega arith) (omega arith)) in
+          let h' = product_below-agree n h f (λ k b'. eh k (omega arith) (omega arith)) in
+          let P : ℕ → Type 0 = λ x. g x + h x ≡ f x in
+          let e' = subst P same e in
+          let d = mul-add (product_below n f) (g n) (h n) in
+          cc
     ]
 
 -- the width of a range that isn't empty, and of two that share out one
 width_is : (a : Area) (k : ℕ) → entry a.lo k ≤ℤ entry a.hi k → pos (width_at a k) ≡ entry a.hi k -ℤ entry a.lo k +ℤ pos 1
-width_is a k h = abs_is (entry a.hi k -ℤ entry a.lo k +ℤ pos 1) (omega (arith, ints))
-  where
-    abs_is : (x : ℤ) → pos 0 ≤ℤ x → pos (unsigned_abs x) ≡ x
-    abs_is (pos n) h = refl
-    abs_is (negsuc n) h = absurd h.le
+width_is a k h = pos-unsigned_abs (entry a.hi k -ℤ entry a.lo k +ℤ pos 1) (omega (arith, ints))
 
 width-other : (a a' : Area) (k : ℕ) → entry a'.lo k ≡ entry a.lo k → entry a'.hi k ≡ entry a.hi k → width_at a' k ≡ width_at a k
 width-other a a' k e f = rw (e, f) refl
@@ -290,18 +288,18 @@ point_count-split a j v s g =
     let low = low_area a j v s g in
     let high = high_area a j v s g in
     let widths : width_at (low_half a j v) j + width_at (high_half a j v) j ≡ width_at a j =
-        let l = width_is (low_half a j v) j (low.ordered j s.column) in
-        let h = width_is (high_half a j v) j (high.ordered j (rw n s.column)) in
-        let w = width_is a j (g.ordered j s.column) in
-        let top : entry (slice_set a.hi j v) j ≡ v = get_or-set_same a.hi j v (pos 0) (let c = s.column in let e = g.sides in omega arith) in
-        let bottom : entry (slice_set a.lo j (v +ℤ pos 1)) j ≡ v +ℤ pos 1 = get_or-set_same a.lo j (v +ℤ pos 1) (pos 0) s.column in
-        omega (arith, ints) in
+    let l = width_is (low_half a j v) j (low.ordered j s.column) in
+    let h = width_is (high_half a j v) j (high.ordered j (rw n s.column)) in
+    let w = width_is a j (g.ordered j s.column) in
+    let top : entry (slice_set a.hi j v) j ≡ v = get_or-set_same a.hi j v (pos 0) (let c = s.column in let e = g.sides in omega arith) in
+    let bottom : entry (slice_set a.lo j (v +ℤ pos 1)) j ≡ v +ℤ pos 1 = get_or-set_same a.lo j (v +ℤ pos 1) (pos 0) s.column in
+    omega (arith, ints) in
     let P : ℕ → Type 0 = λ x. product_below (length a.lo) (width_at (low_half a j v)) + product_below x (width_at (high_half a j v)) ≡ product_below (length a.lo) (width_at a) in
     subst P (sym n)
     (product_below-split (length a.lo) j (width_at a) (width_at (low_half a j v)) (width_at (high_half a j v)) s.column
-        (λ k b ne. width-other a (low_half a j v) k refl (get_or-set_other a.hi j k v (pos 0) ne))
-        (λ k b ne. width-other a (high_half a j v) k (get_or-set_other a.lo j k (v +ℤ pos 1) (pos 0) ne) refl)
-        widths)
+    (λ k b ne. width-other a (low_half a j v) k refl (get_or-set_other a.hi j k v (pos 0) ne))
+    (λ k b ne. width-other a (high_half a j v) k (get_or-set_other a.lo j k (v +ℤ pos 1) (pos 0) ne) refl)
+    widths)
 
 pub point_count-positive : (a : Area) → IsArea a → 1 ≤ point_count a
 point_count-positive a g =
@@ -332,6 +330,6 @@ nodes_by_leaves (Split j v ∷ ns) [] covers = absurd covers
 nodes_by_leaves (Leaf x ∷ ns) (a ∷ stack) covers = let i = nodes_by_leaves ns stack covers.1 in omega arith
 nodes_by_leaves (Split j v ∷ ns) (a ∷ stack) covers = let i = nodes_by_leaves ns (low_half a j v ∷ high_half a j v ∷ stack) covers.1 in omega arith
 
-pub leaves_at_most_points : LeavesAtMostPoints
+pub leaves_at_most_points : {L : Type 0} → LeavesAtMostPoints L
 leaves_at_most_points nodes a tree g =
     (let h = leaves_below_points nodes (a ∷ []) (g, tt) tree in omega arith, let e = nodes_by_leaves nodes (a ∷ []) tree in omega arith)

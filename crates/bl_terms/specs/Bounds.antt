@@ -1,8 +1,11 @@
--- Proofs that the points of a box cost at least so much, or that no point of it meets the rows: weak duality over a box.
-use Rattle.std.specs.Prelude.{ℕ, ℤ, Bool, pos, negsuc, ◌≡◌, ◌+◌, ◌^◌, ◌<◌, ◌≤◌, ◌+ℤ◌, ◌-ℤ◌, ◌*ℤ◌, ◌≤ℤ◌, ◌<ℤ◌, List, [], ◌∷◌, length, slice_index_or, Option, Some, None, if◌then◌else◌, int_lt}
+-- Proofs that the points of a box cost at least so much, or that no point of it meets the rows: weak duality of linear programs with
+-- bounded columns, and Farkas (1902) where the cost has no weight.
+use Rattle.std.specs.Prelude.{ℕ, ℤ, pos, ◌≡◌, ◌^◌, ◌<◌, ◌≤◌, ◌+ℤ◌, ◌-ℤ◌, ◌*ℤ◌, ◌≤ℤ◌, ◌<ℤ◌, List, [], ◌∷◌, length, slice_index_or, Option, Some, None, if◌then◌else◌, int_lt, ◌+◌, ◌*◌, FitsSigned}
+use Rattle.std.specs.Int.{w64, w128}
 use Rattle.bl_whole.specs.Sums.{entry, sum_below, dot}
 use Rattle.bl_whole.specs.Within.{IsWithin, AreWithin}
 use Rattle.bl_terms.specs.Points.{Area, IsArea, InArea, Linear, Meets}
+use Rattle.bl_terms.specs.Trees.{Node, Covers}
 
 -- a problem: rows coef · z <= right, a cost to be minimised, and a box
 pub record Problem : Type 0 where
@@ -84,6 +87,14 @@ pub record Proves (q : Problem) (u : Option ℤ) (w : Weights) : Type 0 where
   pub free : u ≡ None → w.den ≡ pos 0
   pub beyond : mark_of u w <ℤ bound_of q w
 
+-- the problem over another box
+abbrev pub over : Problem → Area → Problem
+over q a = record q { area = a }
+
+-- a tree over the problem's box, each leaf of which has a proof over its box
+abbrev pub ProvesByParts : Problem → Option ℤ → List (Node Weights) → Type 0
+ProvesByParts q u nodes = Covers (λ a w. Proves (over q a) u w) nodes (q.area ∷ [])
+
 -- THE LAWS
 
 -- the least product is at most every product of the range, and a number of the range reaches it
@@ -103,3 +114,34 @@ NoPoint = (q : Problem) (u : Option ℤ) (w : Weights) (z : List ℤ) → IsProb
 -- so does any proof without a cutoff
 abbrev pub NoCutoffNoPoint : Type 0
 NoCutoffNoPoint = (q : Problem) (w : Weights) (z : List ℤ) → IsProblem q → Proves q None w → ¬ IsPoint q z
+
+-- a tree of proofs bounds its box: every point of it that meets the rows costs at least the cutoff
+abbrev pub TreeOfProofs : Type 0
+TreeOfProofs =
+    (q : Problem) (u : ℤ) (nodes : List (Node Weights)) (z : List ℤ)
+    → IsProblem q → ProvesByParts q (Some u) nodes → IsPoint q z → u ≤ℤ dot q.cost z
+
+-- and a tree of proofs without a cutoff shows that no point of the box meets the rows
+abbrev pub TreeOfRefusals : Type 0
+TreeOfRefusals = (q : Problem) (nodes : List (Node Weights)) (z : List ℤ) → IsProblem q → ProvesByParts q None nodes → ¬ IsPoint q z
+
+-- the size of a weight where the problem fits: 465 · 2^86 + 10^7 · 2^50
+abbrev pub weight_size : ℕ
+weight_size = 465 * (2 ^ 50 * 2 ^ 36) + 2 ^ 50 * 10000000
+
+-- where the problem fits and the weights are from 0 to 2^50, every sum of a bound proof stays below 2^127: the first rows' part of a
+-- weight, the weight, each side's product, the first columns' sum of least terms, the first rows' sum of right sides, their
+-- difference, and den · (u - 1) for a cutoff of 64 bits
+pub record SumsFit (q : Problem) (w : Weights) : Type 0 where
+  pub rows_part : (j m : ℕ) → m ≤ length q.rows → FitsSigned w128 (sum_below m (λ i. entry w.mult i *ℤ entry (linear_at q.rows i).coef j))
+  pub weight : (j : ℕ) → FitsSigned w128 (weight_at q w j)
+  pub low_product : (j : ℕ) → FitsSigned w128 (weight_at q w j *ℤ entry q.area.lo j)
+  pub high_product : (j : ℕ) → FitsSigned w128 (weight_at q w j *ℤ entry q.area.hi j)
+  pub least_part : (n : ℕ) → n ≤ length q.area.lo → FitsSigned w128 (sum_below n (least_term q w))
+  pub right_part : (m : ℕ) → m ≤ length q.rows → FitsSigned w128 (sum_below m (λ i. entry w.mult i *ℤ (linear_at q.rows i).right))
+  pub bound : FitsSigned w128 (bound_of q w)
+  pub mark : (u : ℤ) → FitsSigned w64 u → FitsSigned w128 (u -ℤ pos 1) × FitsSigned w128 (mark_of (Some u) w)
+
+-- so no check has an answer of width
+abbrev pub BoundSumsFit : Type 0
+BoundSumsFit = (q : Problem) (w : Weights) → Fits q → AreWeights w → length w.mult ≡ length q.rows → SumsFit q w

@@ -16,6 +16,11 @@ pub record Optimal (p : Program) (z : List ℤ) (v : ℤ) : Type 0 where
   pub value : cost_at p z ≡ v
   pub least : (z' : List ℤ) → BilevelFeasible p z' → v ≤ℤ cost_at p z'
 
+-- z is optimal with the value v, and no other point is
+pub record IsOnlyOptimum (p : Program) (z : List ℤ) (v : ℤ) : Type 0 where
+  pub optimal : Optimal p z v
+  pub alone : (z' : List ℤ) → Optimal p z' v → z' ≡ z
+
 -- no point is bilevel feasible
 abbrev pub Infeasible : Program → Type 0
 Infeasible p = (z : List ℤ) → ¬ BilevelFeasible p z

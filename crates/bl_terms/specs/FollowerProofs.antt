@@ -1,5 +1,5 @@
 -- Proofs of a link's entry: a tree over the box of the follower's columns whose leaves are closed by bound proofs.
-use Rattle.std.specs.Prelude.{ℕ, ℤ, ◌≡◌, ◌<◌, ◌≤◌, ◌-ℤ◌, ◌≤ℤ◌, ◌↔◌, List, [], ◌∷◌, length, Option, Some, None, if◌then◌else◌}
+use Rattle.std.specs.Prelude.{ℕ, ℤ, ◌≡◌, ◌<◌, ◌-ℤ◌, ◌≤ℤ◌, ◌↔◌, List, [], ◌∷◌, length, Option, Some, None, if◌then◌else◌}
 use Rattle.bl_whole.specs.Sums.{entry, dot}
 use Rattle.bl_terms.specs.Points.{Area, InArea, Linear, values_at}
 use Rattle.bl_terms.specs.Programs.{Program, Row, IsProgram}
@@ -49,7 +49,8 @@ pub record IsWithinArea (a outer : Area) : Type 0 where
 
 -- a follower proof implies that the entry is true
 abbrev pub FollowerProofLaw : Type 0
-FollowerProofLaw = (p : Program) (l : List ℤ) (e : Entry) (nodes : List (Node Weights)) → IsProgram p → IsFollowerProof p l e nodes → IsTrueEntry p l e
+FollowerProofLaw =
+    (p : Program) (l : List ℤ) (e : Entry) (nodes : List (Node Weights)) → IsProgram p → IsFollowerProof p l e nodes → IsTrueEntry p l e
 
 -- the points of the follower's problem over a part of the follower's box are the responses there
 abbrev pub FollowerPoints : Type 0

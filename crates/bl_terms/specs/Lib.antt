@@ -5,3 +5,5 @@ pub mod Responses
 pub mod Trees
 pub mod Bounds
 pub mod FollowerProofs
+pub mod EveryPoint
+pub mod Examples

@@ -1,5 +1,5 @@
--- Points and boxes: a point is a list of whole numbers, one for each column.
-use Rattle.std.specs.Prelude.{ℕ, ℤ, ◌≡◌, ◌<◌, ◌≤ℤ◌, List, length, map, refl}
+-- Points and boxes: a point is a list of whole numbers, one for each column of an integer program.
+use Rattle.std.specs.Prelude.{ℕ, ℤ, Bool, false, ◌||◌, [], ◌∷◌, nat_eq, ◌≡◌, ◌<◌, ◌≤ℤ◌, List, length, map, refl}
 use Rattle.std.specs.Coded.{Coded, code_by, coded×, coded_list, coded_ℤ}
 use Rattle.bl_whole.specs.Sums.{entry, dot}
 
@@ -39,3 +39,8 @@ pub record Meets (r : Linear) (z : List ℤ) : Type 0 where
 -- the values of z at the places in ks, in their order
 abbrev pub values_at : List ℤ → List ℕ → List ℤ
 values_at z ks = map (λ k. entry z k) ks
+
+-- k is among ks
+abbrev pub is_among : ℕ → List ℕ → Bool
+is_among k [] = false
+is_among k (j ∷ js) = nat_eq k j || is_among k js

@@ -1,10 +1,11 @@
 -- Bilevel integer programs with bounded columns, after Moore and Bard (1990) and Tahernejad, Ralphs and DeNegre (2020).
-use Rattle.std.specs.Prelude.{ℕ, ℤ, Bool, false, pos, negsuc, ◌≡◌, ◌≢◌, ◌<◌, ◌≤◌, ◌⊎◌, ◌↔◌, List, [], length, slice_index_or, Contains, IsTrue, refl}
+use Rattle.std.specs.Prelude.{ℕ, zero, suc, ℤ, Bool, false, not, ◌&&◌, ◌||◌, if◌then◌else◌, ◌++◌, ◌∷◌, pos, negsuc, ◌≡◌, ◌≢◌, ◌<◌, ◌≤◌, ◌⊎◌, ◌↔◌, List, [], length, slice_index_or, Contains, IsTrue, refl}
 use Rattle.std.specs.List.Sorted.{IsStrictlyIncreasing}
+use Rattle.std.specs.Ordering.{int_eq}
 use Rattle.std.specs.Coded.{Coded, code_by, coded×, coded_list, coded_ℤ, coded_ℕ, coded_bool}
 use Rattle.bl_whole.specs.Sums.{entry, dot}
 use Rattle.bl_whole.specs.Within.{IsWithin}
-use Rattle.bl_terms.specs.Points.{Area, Linear, InArea, IsArea, Meets, values_at}
+use Rattle.bl_terms.specs.Points.{Area, Linear, InArea, IsArea, Meets, values_at, is_among}
 
 -- a row: the inequality coef · z <= right, and whether it is the follower's ("lower")
 pub record Row : Type 0 where
@@ -14,7 +15,8 @@ pub record Row : Type 0 where
 
 abbrev pub row_code : Coded Row
 row_code =
-    code_by (List ℤ × (ℤ × Bool)) (coded× (coded_list coded_ℤ) (coded× coded_ℤ coded_bool)) (λ r. (r.coef, (r.right, r.lower))) (λ p. record { coef = p.0; right = p.1.0; lower = p.1.1 }) (λ _. refl)
+    code_by (List ℤ × (ℤ × Bool)) (coded× (coded_list coded_ℤ) (coded× coded_ℤ coded_bool)) (λ r. (r.coef, (r.right, r.lower)))
+    (λ p. record { coef = p.0; right = p.1.0; lower = p.1.1 }) (λ _. refl)
 
 -- a bilevel program. The numbers from lo to hi are each column's range. The leader minimises cost and the follower follower_cost.
 -- follower has the places of the follower's columns, links those of the linking columns; sense is 1 where the follower's cost
@@ -33,12 +35,25 @@ pub record Program : Type 0 where
 abbrev pub ProgramParts : Type 0
 ProgramParts = List ℤ × (List ℤ × (List Row × (List ℤ × (List ℤ × (List ℕ × (List ℕ × ℤ))))))
 
+abbrev pub program_of_parts : ProgramParts → Program
+program_of_parts q = record {
+  lo = q.0;
+  hi = q.1.0;
+  rows = q.1.1.0;
+  cost = q.1.1.1.0;
+  follower_cost = q.1.1.1.1.0;
+  follower = q.1.1.1.1.1.0;
+  links = q.1.1.1.1.1.1.0;
+  sense = q.1.1.1.1.1.1.1;
+}
+
 abbrev pub program_code : Coded Program
 program_code =
     code_by ProgramParts
-    (coded× (coded_list coded_ℤ) (coded× (coded_list coded_ℤ) (coded× (coded_list row_code) (coded× (coded_list coded_ℤ) (coded× (coded_list coded_ℤ) (coded× (coded_list coded_ℕ) (coded× (coded_list coded_ℕ) coded_ℤ)))))))
+    (coded× (coded_list coded_ℤ) (coded× (coded_list coded_ℤ) (coded× (coded_list row_code) (coded× (coded_list coded_ℤ)
+    (coded× (coded_list coded_ℤ) (coded× (coded_list coded_ℕ) (coded× (coded_list coded_ℕ) coded_ℤ)))))))
     (λ p. (p.lo, (p.hi, (p.rows, (p.cost, (p.follower_cost, (p.follower, (p.links, p.sense))))))))
-    (λ q. record { lo = q.0; hi = q.1.0; rows = q.1.1.0; cost = q.1.1.1.0; follower_cost = q.1.1.1.1.0; follower = q.1.1.1.1.1.0; links = q.1.1.1.1.1.1.0; sense = q.1.1.1.1.1.1.1 })
+    program_of_parts
     (λ _. refl)
 
 -- how many columns
@@ -94,6 +109,23 @@ IsInLower p k = (i : ℕ) × (i < length p.rows) × IsTrue (row_at p.rows i).low
 pub record IsLinking (p : Program) : Type 0 where
   pub rising : IsStrictlyIncreasing p.links
   pub exact : (k : ℕ) → Contains p.links k ↔ (IsLeader p k × IsInLower p k)
+
+-- the tests of these facts: some row of the follower among the first n has a coefficient other than 0 in column k; k links
+abbrev pub is_in_lower : List Row → ℕ → ℕ → Bool
+is_in_lower rows zero k = false
+is_in_lower rows (suc n) k = is_in_lower rows n k || ((row_at rows n).lower && not (int_eq (entry (row_at rows n).coef k) (pos 0)))
+
+abbrev pub is_linking : Program → ℕ → Bool
+is_linking p k = not (is_among k p.follower) && is_in_lower p.rows (length p.rows) k
+
+-- the columns below n that link, in rising order
+abbrev pub linking_below : Program → ℕ → List ℕ
+linking_below p zero = []
+linking_below p (suc n) = if is_linking p n then linking_below p n ++ n ∷ [] else linking_below p n
+
+-- THE LAW: the linking columns are the columns that pass the test
+abbrev pub LinkingComputed : Type 0
+LinkingComputed = (p : Program) → IsLinking p ↔ (p.links ≡ linking_below p (columns p))
 
 -- the values of z on the linking columns
 abbrev pub link_of : Program → List ℤ → List ℤ

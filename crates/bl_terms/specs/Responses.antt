@@ -1,4 +1,5 @@
--- What the follower can answer to the values of the linking columns, and what is true of its least cost.
+-- What the follower can answer to the values of the linking columns, and what is true of its least cost: the second-stage problem of
+-- DeNegre and Ralphs (2009), over the linking columns of Tahernejad, Ralphs and DeNegre (2020).
 use Rattle.std.specs.Prelude.{ℕ, ℤ, ◌≡◌, ◌<◌, ◌+ℤ◌, ◌≤ℤ◌, ◌↔◌, List, length, slice_index, IsTrue}
 use Rattle.bl_whole.specs.Sums.{entry, dot}
 use Rattle.bl_terms.specs.Points.{values_at}
@@ -55,7 +56,8 @@ pub record IsFollowerOptimum (p : Program) (z : List ℤ) (v : ℤ) : Type 0 whe
 -- points with one link have one follower's optimum, whatever their other columns are
 abbrev pub OptimumOfLink : Type 0
 OptimumOfLink =
-    (p : Program) (z z' : List ℤ) (v : ℤ) → IsProgram p → In p z → In p z' → link_of p z ≡ link_of p z' → IsFollowerOptimum p z v → IsFollowerOptimum p z' v
+    (p : Program) (z z' : List ℤ) (v : ℤ) → IsProgram p → In p z → In p z' → link_of p z ≡ link_of p z'
+    → IsFollowerOptimum p z v → IsFollowerOptimum p z' v
 
 -- where the link's entry is true, a best response's cost is the follower's optimum
 abbrev pub EntryIsOptimum : Type 0

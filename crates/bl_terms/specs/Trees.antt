@@ -1,4 +1,5 @@
--- Trees that split a box, generic in what a leaf hands in: lists of nodes in preorder over a stack of the boxes that are still to be closed.
+-- Trees that split a box, as in branch and bound (Land and Doig 1960), generic in what a leaf hands in: lists of nodes in preorder
+-- over a stack of the boxes that are still to be closed.
 use Rattle.std.specs.Prelude.{ℕ, ℤ, pos, ◌≡◌, ◌+◌, ◌*◌, ◌<◌, ◌≤◌, ◌+ℤ◌, ◌-ℤ◌, ◌≤ℤ◌, ◌<ℤ◌, zero, suc, List, [], ◌∷◌, length, slice_set, slice_index_or, unsigned_abs}
 use Rattle.bl_whole.specs.Sums.{entry}
 use Rattle.bl_terms.specs.Points.{Area, IsArea, InArea}
@@ -60,23 +61,23 @@ width_at a k = unsigned_abs (entry a.hi k -ℤ entry a.lo k +ℤ pos 1)
 abbrev pub point_count : Area → ℕ
 point_count a = product_below (length a.lo) (width_at a)
 
--- THE LAWS, of trees whose leaves hand in numbers
+-- THE LAWS, of trees whose leaves hand in values of L
 
 -- each point of the box lies in exactly one box of a leaf
-abbrev pub EachPointInOneLeaf : Type 0
-EachPointInOneLeaf =
-    (nodes : List (Node ℕ)) (a : Area) (z : List ℤ) → IsTree nodes a → length a.hi ≡ length a.lo → InArea a z
+abbrev pub EachPointInOneLeaf : Type 0 → Type 0
+EachPointInOneLeaf L =
+    (nodes : List (Node L)) (a : Area) (z : List ℤ) → IsTree nodes a → length a.hi ≡ length a.lo → InArea a z
     → (i : ℕ) × (i < length (leaf_boxes nodes (a ∷ []))) × InArea (area_at (leaf_boxes nodes (a ∷ [])) i) z
     × ((i' : ℕ) → i' < length (leaf_boxes nodes (a ∷ [])) → InArea (area_at (leaf_boxes nodes (a ∷ [])) i') z → i' ≡ i)
 
 -- each box of a leaf has a point, and its points are points of the box
-abbrev pub LeavesAreParts : Type 0
-LeavesAreParts =
-    (nodes : List (Node ℕ)) (a : Area) (i : ℕ) → IsTree nodes a → IsArea a → i < length (leaf_boxes nodes (a ∷ []))
+abbrev pub LeavesAreParts : Type 0 → Type 0
+LeavesAreParts L =
+    (nodes : List (Node L)) (a : Area) (i : ℕ) → IsTree nodes a → IsArea a → i < length (leaf_boxes nodes (a ∷ []))
     → IsArea (area_at (leaf_boxes nodes (a ∷ [])) i) × ((z : List ℤ) → InArea (area_at (leaf_boxes nodes (a ∷ [])) i) z → InArea a z)
 
 -- a tree has at most as many leaves as its box has points, and one node less than twice its leaves
-abbrev pub LeavesAtMostPoints : Type 0
-LeavesAtMostPoints =
-    (nodes : List (Node ℕ)) (a : Area) → IsTree nodes a → IsArea a
+abbrev pub LeavesAtMostPoints : Type 0 → Type 0
+LeavesAtMostPoints L =
+    (nodes : List (Node L)) (a : Area) → IsTree nodes a → IsArea a
     → (length (leaf_boxes nodes (a ∷ [])) ≤ point_count a) × (length nodes + 1 ≡ 2 * length (leaf_boxes nodes (a ∷ [])))

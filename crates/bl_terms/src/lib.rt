@@ -4,6 +4,8 @@
 #![tactic(auto)]
 
 pub mod bounds;
+pub mod examples;
 pub mod follower_proofs;
+pub mod programs;
 pub mod responses;
 pub mod trees;

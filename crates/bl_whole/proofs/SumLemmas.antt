@@ -7,7 +7,7 @@ use Rattle.std.proofs.lemmas.Int.{ints}
 use Rattle.std.proofs.lemmas.Bool.{cases_lt, cases_eq}
 use Rattle.std.proofs.lemmas.Bool.Decides.{nat_tests}
 use Rattle.std.specs.List.Sorted.{IsStrictlyIncreasing}
-use Rattle.bl_whole.specs.Sums.{sum_below}
+use Rattle.bl_whole.specs.Sums.{sum_over, sum_below}
 use Rattle.bl_whole.proofs.Products.{*ℤ-+ℤ}
 
 -- one more place
@@ -107,10 +107,6 @@ rising_pairs xs h i (suc j) a b =
       | inl c ↦ let r = rising_pairs xs h i j c (omega arith) in omega arith
       | inr c ↦ let same : i ≡ j = omega arith in rw same step'
     ]
-
--- the sum of f over the places in ks
-abbrev pub sum_over : List ℕ → (ℕ → ℤ) → ℤ
-sum_over ks f = sum_below (length ks) (λ j. f (slice_index ks j))
 
 sum_over-cons : (k : ℕ) (ks : List ℕ) (f : ℕ → ℤ) → sum_over (k ∷ ks) f ≡ f k +ℤ sum_over ks f
 sum_over-cons k ks f = sum_below_front (length ks) (λ j. f (slice_index (k ∷ ks) j))

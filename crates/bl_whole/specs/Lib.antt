@@ -1,3 +1,4 @@
 pub mod Sums
 pub mod Within
 pub mod Identities
+pub mod Laws

@@ -2,4 +2,4 @@ use Rattle.bl_terms.proofs.TreeLemmas.{each_point_in_one_leaf}
 use Rattle.bl_terms.proofs.trees.each_point_in_one_leaf.Goals as goal
 
 pub returns : goal.returns
-returns c = each_point_in_one_leaf
+returns g c = each_point_in_one_leaf

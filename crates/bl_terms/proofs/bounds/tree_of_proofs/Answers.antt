@@ -1,0 +1,5 @@
+use Rattle.bl_terms.proofs.BoundLemmas.{tree_of_proofs}
+use Rattle.bl_terms.proofs.bounds.tree_of_proofs.Goals as goal
+
+pub returns : goal.returns
+returns c = tree_of_proofs
