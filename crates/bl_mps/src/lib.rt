@@ -1,0 +1,9 @@
+//! Reading the MPS text of a model.
+#![tactic(auto)]
+
+mod entries;
+mod names;
+mod numbers;
+mod stop;
+
+pub use names::NameTable;
