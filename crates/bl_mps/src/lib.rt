@@ -4,6 +4,7 @@
 mod entries;
 mod names;
 mod numbers;
+mod rows;
 mod stop;
 
 pub use names::NameTable;
