@@ -1,3 +1,6 @@
+pub mod Bounds
+pub mod Columns
+pub mod ColumnViews
 pub mod Lines
 pub mod Numbers
 pub mod Rows

@@ -16,6 +16,7 @@ pub struct Pair<'a> {
 }
 
 /// A data line that gives numbers: a name, and one or two pairs of a row and a number.
+#[derive(Drop)]
 pub struct Entry<'a> {
     pub name: &'a [u8],
     pub pair: Pair<'a>,
@@ -23,6 +24,7 @@ pub struct Entry<'a> {
 }
 
 /// A line of bounds: its kind, a set name, a column and a number.
+#[derive(Drop)]
 pub struct BoundLine<'a> {
     pub kind: &'a [u8],
     pub column: &'a [u8],
