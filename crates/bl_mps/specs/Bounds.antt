@@ -1,9 +1,13 @@
 -- The bounds of a text in the first form.
-use Rattle.std.specs.Prelude.{ℕ, ℤ, Bool, not, ◌&&◌, List, [], ◌∷◌, Option, Some, None, codes, if◌then◌else◌}
+use Rattle.std.specs.Prelude.{ℕ, ℤ, Bool, not, ◌&&◌, List, [], ◌∷◌, Option, Some, None, codes, pos, unsigned_abs, ◌≤◌, ◌≤ℤ◌, if◌then◌else◌}
 use Rattle.std.specs.Str.{bytes_eq}
 use Rattle.std.specs.Str.Parse.{starts_with_minus}
 use Rattle.bl_mps.specs.Lines.{Bytes, bound_in}
 use Rattle.bl_mps.specs.Numbers.{◌>>=◌, number_within}
+
+-- from 0 to 10^7
+abbrev pub IsUpper : ℤ → Type 0
+IsUpper z = (pos 0 ≤ℤ z) × (unsigned_abs z ≤ 10000000)
 
 -- the number from 0 on, without a sign, of an `UP` line of the column
 unfoldable pub upper_in : Bytes → List Bytes → Option ℤ

@@ -1,8 +1,8 @@
 //! The lines under COLUMNS and RHS.
-ghost use Rattle.std.specs.Prelude.{◌≡◌, ◌+◌, ◌<◌, [], ◌∷◌, length, map, vec_len, All, IfOk, OnOk, codes};
+ghost use Rattle.std.specs.Prelude.{◌≡◌, ◌+◌, ◌<◌, [], ◌∷◌, length, map, vec_len, All, IfOk, OnOk, codes, ◌==◌, Some, None, if◌then◌else◌};
 ghost use Rattle.bl_text.specs.Fields.{fields_of};
 ghost use Rattle.bl_text.specs.Lines.{lines_of};
-ghost use Rattle.bl_mps.specs.Columns.{HasPlaces, begun, last_entered, column_taken_up, columns_in, right_side_taken_up, right_sides_in};
+ghost use Rattle.bl_mps.specs.Columns.{HasPlaces, begun, last_entered, column_taken_up, columns_in, columns_from, right_side_taken_up, right_sides_in};
 ghost use Rattle.bl_mps.specs.ColumnViews.{columns_view};
 ghost use Rattle.bl_mps.specs.Stops.{Gives, Leaves};
 ghost use Rattle.bl_mps.specs.Views.{entry_view};
@@ -83,4 +83,69 @@ fn enter_last(rows: &NameTable, columns: &mut Columns, entry: &Entry<'_>) -> Res
     let last = columns.numbers.len() - 1;
     let numbers = &mut columns.numbers[last];
     numbers.enter(rows, MOST_COEFFICIENT, entry).ok_or(Stop::NotFirst)
+}
+
+/// Reads the lines under COLUMNS, which stand between two marker lines.
+#[tactic(auto, unfolding(crate::specs::Columns::columns_in, crate::specs::Columns::columns_from))]
+pub fn read_columns(alloc: Global, rows: &NameTable, text: &[u8]) -> Result<Columns, Stop>
+    ensures places { IfOk result (λ columns. HasPlaces (length rows.now) (columns_view columns)) }
+    ensures exact { Gives columns_view result (columns_in rows.now (map fields_of (lines_of text.now))) }
+{
+    let (first, mut rest) = split_line(text).ok_or(Stop::NotFirst)?;
+    if !is_marker(first, "'INTORG'") {
+        return Err(Stop::NotFirst);
+    }
+    let mut columns = Columns {
+        names: NameTable::new(alloc),
+        numbers: Vec::new(alloc),
+    };
+    while let Some((line, after)) = split_line(rest) {
+        if is_marker(line, "'INTEND'") {
+            return ended_columns(columns, after);
+        }
+        add_column_line(alloc, rows, &mut columns, line)?;
+        rest = after;
+    }
+    Err(Stop::NotFirst)
+}
+
+/// The columns, where no line follows.
+fn ended_columns(columns: Columns, after: &[u8]) -> Result<Columns, Stop>
+    ensures { Gives (λ c. c) result (if length (lines_of after.now) == 0 then Some columns else None) }
+{
+    if split_line(after).is_some() {
+        return Err(Stop::NotFirst);
+    }
+    Ok(columns)
+}
+
+/// Takes up a line of right sides.
+#[tactic(auto, unfolding(crate::specs::Columns::right_side_taken_up))]
+fn add_right_sides(rows: &NameTable, sides: &mut Numbers, line: &[u8]) -> Result<(), Stop>
+    requires { length sides.old ≡ length rows.now }
+    ensures places { length sides.new ≡ length sides.old }
+    ensures taken_up { Leaves result sides.new (right_side_taken_up rows.now sides.old (fields_of line.now)) }
+{
+    let entry = entry_line(line).ok_or(Stop::NotFirst)?;
+    sides
+        .enter(rows, MOST_RIGHT_SIDE, &entry)
+        .ok_or(Stop::NotFirst)
+}
+
+/// Reads the lines under RHS: the right sides by the places of the rows' names, with none at the
+/// objective's, which is the first.
+#[tactic(auto, unfolding(crate::specs::Columns::right_sides_in, crate::specs::Numbers::taken_up))]
+pub fn read_right_sides(alloc: Global, rows: &NameTable, text: &[u8]) -> Result<Numbers, Stop>
+    requires { 0 < length rows.now }
+    ensures places { IfOk result (λ sides. length sides ≡ length rows.now) }
+    ensures exact { Gives (λ sides. sides) result (right_sides_in rows.now (map fields_of (lines_of text.now))) }
+{
+    let mut sides = Numbers::none(alloc, rows.len())?;
+    for line in lines_of(text) {
+        add_right_sides(rows, &mut sides, line)?;
+    }
+    if sides.as_slice()[0].is_some() {
+        return Err(Stop::NotFirst);
+    }
+    Ok(sides)
 }

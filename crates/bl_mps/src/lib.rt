@@ -1,6 +1,7 @@
 //! Reading the MPS text of a model.
 #![tactic(auto)]
 
+mod bounds;
 mod columns;
 mod entries;
 mod names;
