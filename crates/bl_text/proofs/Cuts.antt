@@ -1,5 +1,5 @@
 -- Where the first line and the first field of a text end.
-use Rattle.std.proofs.Common.{◌≡◌, ℕ, zero, suc, ◌+◌, ◌<◌, ◌≤◌, Bool, true, false, cond, eqb, ltb, List, [], ◌∷◌, length, get_or, take, drop, Option, Some, None, refl, sym, ap, ◌∙◌, arith, not, position, filter, add-one, add-zero}
+use Rattle.std.proofs.Common.{◌≡◌, ℕ, zero, suc, ◌+◌, ◌<◌, ◌≤◌, Bool, true, false, cond, eqb, ltb, List, [], ◌∷◌, ◌++◌, length, get_or, take, drop, Option, Some, None, refl, sym, ap, ◌∙◌, arith, not, position, filter, add-one, add-zero}
 use Rattle.std.specs.List.{slice_split, position_or_len}
 use Rattle.std.specs.Option.{unwrap_or}
 use Rattle.std.proofs.lemmas.List.Quantifiers.{position-Some}
@@ -7,6 +7,8 @@ use Rattle.std.proofs.lemmas.List.Sums.{fails_before_first}
 use Rattle.std.proofs.lemmas.Bool.{ltb-false, lt-ltb, false≢true}
 use Rattle.std.proofs.lemmas.List.{length-drop, length-take, get_or-drop, drop_all, take_all}
 use Rattle.std.proofs.Math.Seq.{drop-cons}
+use Rattle.std.proofs.lemmas.Bool.{eqb-true}
+use Rattle.std.proofs.lemmas.List.{take-append-drop, drop_more}
 use Rattle.bl_text.specs.Lines.{lines_of}
 use Rattle.bl_text.specs.Fields.{is_blank, is_nonempty, fields_of}
 
@@ -50,6 +52,14 @@ lines_of-cut text i e = rw add-one (lines_of-first text i (position-Some (λ b. 
 pub lines_of-uncut : (text : List ℕ) → false ≡ eqb (length text) 0 → position (λ b. eqb b 10) text ≡ None → lines_of text ≡ text ∷ []
 lines_of-uncut [] full e = absurd (false≢true full)
 lines_of-uncut (b ∷ bs) full e = lines_of-none (b ∷ bs) (omega arith) (none-passes (λ b. eqb b 10) (b ∷ bs) e)
+
+-- the text is its first line, a line feed and what follows
+pub text-cut : (text : List ℕ) (i : ℕ) → position (λ b. eqb b 10) text ≡ Some i → text ≡ take i text ++ 10 ∷ drop (i + 1) text
+text-cut text i e =
+    let first = position-Some (λ b. eqb b 10) text i 0 e in
+    let feed : get_or text i 0 ≡ 10 = eqb-true _ _ first.1 in
+    sym (take-append-drop i text)
+    ∙ ap (λ (back : List ℕ). take i text ++ back) (drop_more text i 0 first.0 ∙ ap (λ (b : ℕ). b ∷ drop (i + 1) text) feed)
 
 -- ---- fields
 

@@ -13,12 +13,15 @@ lines_of-last [] h = refl
 lines_of-last (b ∷ []) h = rw (h.0) refl
 lines_of-last (b ∷ c ∷ bs) h = rw (h.0, lines_of-last (c ∷ bs) h.1) refl
 
+lines_of-ended : (lines : List (List ℕ)) (rest : List ℕ) → AllByRecursion IsLine lines → lines_of (flat_map ended lines ++ rest) ≡ lines ++ lines_of rest
+lines_of-ended [] rest h = refl
+lines_of-ended (line ∷ lines) rest h =
+    ap lines_of (append_assoc (ended line) (flat_map ended lines) rest ∙ append_assoc line (10 ∷ []) (flat_map ended lines ++ rest))
+    ∙ lines_of-line line (flat_map ended lines ++ rest) h.0
+    ∙ ap (λ (ls : List (List ℕ)). line ∷ ls) (lines_of-ended lines rest h.1)
+
 pub has_its_lines : HasItsLines
-has_its_lines [] last h p = lines_of-last last p
-has_its_lines (line ∷ lines) last h p =
-    ap lines_of (append_assoc (ended line) (flat_map ended lines) last ∙ append_assoc line (10 ∷ []) (flat_map ended lines ++ last))
-    ∙ lines_of-line line (flat_map ended lines ++ last) h.0
-    ∙ ap (λ (ls : List (List ℕ)). line ∷ ls) (has_its_lines lines last h.1 p)
+has_its_lines = record { ended = lines_of-ended; last = lines_of-last }
 
 -- the text, with or without a last line feed
 abbrev Joins : List (List ℕ) → List ℕ → Type 0

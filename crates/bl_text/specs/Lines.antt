@@ -20,10 +20,15 @@ abbrev pub unended : List ℕ → List (List ℕ)
 unended [] = []
 unended (byte ∷ rest) = (byte ∷ rest) ∷ []
 
--- A text made of lines has just these lines, whether or not the last has its line feed.
-abbrev pub HasItsLines : Type 0
-HasItsLines = (lines : List (List ℕ)) (last : List ℕ) → AllByRecursion IsLine lines → IsLine last
-    → lines_of (flat_map ended lines ++ last) ≡ lines ++ unended last
+-- the line comes first in the text, and behind its line feed the rest; or it is all of the text
+abbrev pub IsCut : List ℕ → List ℕ → List ℕ → Type 0
+IsCut text line rest = (text ≡ line ++ 10 ∷ rest) ⊎ ((text ≡ line) × (rest ≡ []))
+
+-- A text that begins with lines has these lines first, and bytes without a line feed are one line at most.
+pub record HasItsLines : Type 0 where
+  pub ended : (lines : List (List ℕ)) (rest : List ℕ) → AllByRecursion IsLine lines
+      → lines_of (flat_map ended lines ++ rest) ≡ lines ++ lines_of rest
+  pub last : (last : List ℕ) → IsLine last → lines_of last ≡ unended last
 
 -- Each text is its lines, each with its line feed, but perhaps for the last.
 abbrev pub IsItsLines : Type 0

@@ -2,7 +2,7 @@
 ghost use Rattle.bl_text.specs.Fields.{AreRuns};
 ghost use Rattle.bl_text.specs.Lines.{HasItsLines, IsItsLines};
 
-/// A text made of lines has just these lines, whether or not its last line has a line feed.
+/// A text that begins with lines has these lines first, and bytes without a line feed are one line at most.
 pub fn text_has_its_lines()
     ensures { HasItsLines }
 {}

@@ -1,7 +1,7 @@
 //! Lines of a text.
 ghost use Rattle.std.specs.Prelude.{◌≡◌, ◌==◌, ◌<◌, [], ◌∷◌, length, position, MatchOption, IfSome};
 ghost use Rattle.std.specs.Iterator.{YieldsFirstRef, item_count};
-ghost use Rattle.bl_text.specs.Lines.{lines_of};
+ghost use Rattle.bl_text.specs.Lines.{lines_of, IsCut};
 
 use std::marker::Model;
 
@@ -15,6 +15,7 @@ fn first_line_feed(text: &[u8]) -> Option<usize>
 pub fn split_line(text: &[u8]) -> Option<(&[u8], &[u8])>
     ensures first { MatchOption result (text.now ≡ [])
         (λ parts. lines_of text.now ≡ parts.0.now ∷ lines_of parts.1.now) }
+    ensures cut { IfSome result (λ parts. IsCut text.now parts.0.now parts.1.now) }
     ensures shorter { IfSome result (λ parts. length parts.1.now < length text.now) }
 {
     if text.is_empty() {

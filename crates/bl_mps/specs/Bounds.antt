@@ -1,0 +1,27 @@
+-- The bounds of a text in the first form.
+use Rattle.std.specs.Prelude.{ℕ, ℤ, Bool, not, ◌&&◌, List, [], ◌∷◌, Option, Some, None, codes, pos, unsigned_abs, ◌≤◌, ◌≤ℤ◌, if◌then◌else◌}
+use Rattle.std.specs.Str.{bytes_eq}
+use Rattle.std.specs.Str.Parse.{starts_with_minus}
+use Rattle.bl_mps.specs.Lines.{Bytes, bound_in}
+use Rattle.bl_mps.specs.Numbers.{◌>>=◌, number_within}
+
+-- from 0 to 10^7
+abbrev pub IsUpper : ℤ → Type 0
+IsUpper z = (pos 0 ≤ℤ z) × (unsigned_abs z ≤ 10000000)
+
+-- the number from 0 on, without a sign, of an `UP` line of the column
+unfoldable pub upper_in : Bytes → List Bytes → Option ℤ
+upper_in column fields = do
+  line ← bound_in fields
+  if bytes_eq line.kind (codes "UP") && (bytes_eq line.column column && not (starts_with_minus line.number))
+    then number_within 10000000 line.number else None
+
+-- one line for each column, in their order
+unfoldable pub uppers_in : List Bytes → List (List Bytes) → Option (List ℤ)
+uppers_in [] [] = Some []
+uppers_in [] (line ∷ lines) = None
+uppers_in (column ∷ columns) [] = None
+uppers_in (column ∷ columns) (line ∷ lines) = do
+  upper ← upper_in column line
+  uppers ← uppers_in columns lines
+  Some (upper ∷ uppers)

@@ -1,0 +1,9 @@
+pub mod Bounds
+pub mod Columns
+pub mod ColumnViews
+pub mod Lines
+pub mod Numbers
+pub mod Rows
+pub mod RowViews
+pub mod Stops
+pub mod Views
