@@ -10,6 +10,8 @@ mod plan;
 mod shelf;
 mod sink;
 mod std_sink;
+#[cfg(test)]
+mod tests;
 mod text;
 
 pub use dir_shelf::DirShelf;
