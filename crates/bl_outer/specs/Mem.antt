@@ -4,12 +4,9 @@ use Rattle.std.specs.List.{list_any}
 use Rattle.std.specs.FinMap.{from_entries}
 use Rattle.std.specs.FinMap as finmap
 use Rattle.std.specs.Coded.{Coded, code_by, coded×, coded_ℕ, coded_list, coded_option}
+use Rattle.bl_outer.specs.Count.{counted}
 use Rattle.bl_outer.specs.Files.{Files}
 use Rattle.bl_outer.specs.Shelf.{Mode, Nothing, Reading, Writing}
-
--- a number that stands still at 2^64 - 1, one on
-abbrev pub counted : ℕ → ℕ
-counted n = min (n + 1) (2 ^ 64 - 1)
 
 -- the numbers of the calls that are to fail, and how many calls there were
 pub record Plan : Type 0 where
@@ -63,7 +60,7 @@ pub record ShelfState : Type 0 where
 
 -- a shelf in memory with no files, and nothing chosen or counted
 abbrev pub empty_shelf : List ℕ → ShelfState
-empty_shelf fails = record { files = files_of []; mode = Nothing; read_faults = 0; write_faults = 0; misses = 0; plan = record { fails = fails; calls = 0 } }
+empty_shelf fails = record { files = finmap.empty; mode = Nothing; read_faults = 0; write_faults = 0; misses = 0; plan = record { fails = fails; calls = 0 } }
 
 -- how a proof tells two states apart: what is chosen as an optional name with an optional place, and a record as the tuple of its fields
 abbrev pub chosen_part : Mode → Option (List ℕ × Option ℕ)

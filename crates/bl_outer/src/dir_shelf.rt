@@ -1,6 +1,6 @@
 ghost use Rattle.std.specs.Prelude.{◌≡◌, ◌+◌, ◌≤◌, None, IfOk, OnErr, drop, length};
 
-use crate::plan::risen;
+use crate::count::risen;
 use crate::shelf::{Found, Shelf, ShelfFail};
 use std::alloc::Global;
 use std::io::{ErrorKind, Read, Write};

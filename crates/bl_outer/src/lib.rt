@@ -1,6 +1,7 @@
 //! The outside, as traits that count what goes wrong: files (`Shelf`), outputs (`Sink`) and a gate.
 #![tactic(auto)]
 
+mod count;
 mod dir_shelf;
 mod gate;
 mod mem_file;

@@ -116,8 +116,10 @@ pub(crate) fn put_file(
 /// and says whether the whole piece was added.
 pub(crate) fn append_at(files: &mut [MemFile], file: usize, piece: &[u8], fails: bool) -> bool
     requires { IsFirst files.old file }
-    ensures whole { OnTrue result (Appends (name_at files.old file) piece.now (files_of files.old) (files_of files.new)) }
-    ensures part { OnFalse result (AppendsPrefix (name_at files.old file) piece.now (files_of files.old) (files_of files.new)) }
+    ensures whole { OnTrue result (Appends (name_at files.old file) piece.now
+        (files_of files.old) (files_of files.new)) }
+    ensures part { OnFalse result (AppendsPrefix (name_at files.old file) piece.now
+        (files_of files.old) (files_of files.new)) }
     ensures planned { OnTrue result (fails ≡ false) }
     ensures names { NamesStay files.old files.new }
 {

@@ -2,8 +2,9 @@ ghost use Rattle.std.specs.Prelude.{◌≡◌, ◌-◌, ◌<◌, ◌≤◌, [], 
 ghost use Rattle.std.specs.Option.{option_map};
 ghost use Rattle.std.specs.FinMap.{empty, get, insert};
 
+use crate::count::risen;
 use crate::mem_file::{MemFile, append_at, bytes_at, place_of, put_file};
-use crate::plan::{CallPlan, risen};
+use crate::plan::CallPlan;
 use crate::shelf::{Found, Shelf, ShelfFail};
 use std::alloc::{AllocError, Global};
 use std::marker::Model;
@@ -50,7 +51,8 @@ impl Model for MemShelf {
 }
 
 impl MemShelf {
-    ghost use Rattle.bl_outer.specs.Mem.{empty_shelf, counted};
+    ghost use Rattle.bl_outer.specs.Mem.{empty_shelf};
+    ghost use Rattle.bl_outer.specs.Count.{counted};
     ghost use Rattle.bl_outer.specs.Shelf.{Nothing};
 
     /// No files. The numbers in `fails` count the calls of the trait from 1.
@@ -204,8 +206,10 @@ impl Shelf for MemShelf {
         requires writing { IsWriting self.old.mode }
 
         ensures chosen { self.new.mode ≡ self.old.mode }
-        ensures ok { OnOk result (Appends (chosen_name self.old.mode) piece.now self.old.files self.new.files) }
-        ensures err { OnErr result (AppendsPrefix (chosen_name self.old.mode) piece.now self.old.files self.new.files) }
+        ensures ok { OnOk result (Appends (chosen_name self.old.mode) piece.now
+            self.old.files self.new.files) }
+        ensures err { OnErr result (AppendsPrefix (chosen_name self.old.mode) piece.now
+            self.old.files self.new.files) }
 
         ensures write_cause { HasCause self.old.write_faults self.new.write_faults result }
         ensures read_faults { self.new.read_faults ≡ self.old.read_faults }

@@ -3,7 +3,8 @@ ghost use Rattle.bl_outer.specs.Count.{HasCause};
 ghost use Rattle.bl_outer.specs.Mem.{is_planned, after_call};
 ghost use Rattle.bl_outer.specs.Sink.{Adds, AddsPrefix};
 
-use crate::plan::{CallPlan, add_piece, risen};
+use crate::count::risen;
+use crate::plan::{CallPlan, add_piece};
 use crate::sink::{Sink, SinkFail};
 use std::alloc::{AllocError, Global};
 use std::marker::Model;

@@ -52,7 +52,8 @@ pub trait Shelf {
 
         ensures chosen { mode self.new ≡ mode_read (mode self.old) result }
         ensures count { IfOk result (λ n. n ≤ length into.old) }
-        ensures bytes { IfOk result (λ n. IfTold (contents self.old) (GivesNext (mode self.old) n into.new)) }
+        ensures bytes { IfOk result (λ n. IfTold
+            (contents self.old) (GivesNext (mode self.old) n into.new)) }
         ensures rest { IfOk result (λ n. drop n into.new ≡ drop n into.old) }
         ensures err { OnErr result (into.new ≡ into.old) }
         ensures files { contents self.new ≡ contents self.old }
@@ -66,7 +67,8 @@ pub trait Shelf {
     fn begin(&mut self, name: &str) -> Result<(), ShelfFail>
         ensures chosen { mode self.new ≡ mode_begun name.now result }
         ensures ok { OnOk result (Told (Empties name.now) (contents self.old) (contents self.new)) }
-        ensures err { OnErr result (Told (StaysOrEmpties name.now) (contents self.old) (contents self.new)) }
+        ensures err { OnErr result (Told (StaysOrEmpties name.now)
+            (contents self.old) (contents self.new)) }
 
         ensures write_cause { HasCause (write_faults self.old) (write_faults self.new) result }
         ensures read_faults { read_faults self.new ≡ read_faults self.old }
@@ -77,8 +79,10 @@ pub trait Shelf {
         requires writing { IsWriting (mode self.old) }
 
         ensures chosen { mode self.new ≡ mode self.old }
-        ensures ok { OnOk result (Told (Appends (chosen_name (mode self.old)) piece.now) (contents self.old) (contents self.new)) }
-        ensures err { OnErr result (Told (AppendsPrefix (chosen_name (mode self.old)) piece.now) (contents self.old) (contents self.new)) }
+        ensures ok { OnOk result (Told (Appends (chosen_name (mode self.old)) piece.now)
+            (contents self.old) (contents self.new)) }
+        ensures err { OnErr result (Told (AppendsPrefix (chosen_name (mode self.old)) piece.now)
+            (contents self.old) (contents self.new)) }
 
         ensures write_cause { HasCause (write_faults self.old) (write_faults self.new) result }
         ensures read_faults { read_faults self.new ≡ read_faults self.old }

@@ -1,6 +1,6 @@
 ghost use Rattle.std.specs.Prelude.{None};
 
-use crate::plan::risen;
+use crate::count::risen;
 use crate::sink::{Sink, SinkFail};
 use std::io;
 use std::io::Write;
