@@ -34,11 +34,16 @@ pub struct DirShelf<'a, R: Files> {
 }
 
 impl<'a, R: Files> DirShelf<'a, R> {
-    ghost use Rattle.bl_outer.specs.Shelf.{Reading, Writing};
+    ghost use Rattle.bl_outer.specs.Shelf.{Nothing, Reading, Writing};
     ghost use Rattle.bl_outer.specs.DirShelf.{mode_of};
 
     /// The empty text is the current folder.
-    pub fn new(rt: &'a R, alloc: Global, folder: &'a str) -> DirShelf<'a, R> {
+    pub fn new(rt: &'a R, alloc: Global, folder: &'a str) -> DirShelf<'a, R>
+        ensures chosen { ⟦<DirShelf<'a, R> as Shelf>⟧.mode result ≡ Nothing }
+        ensures read_faults { ⟦<DirShelf<'a, R> as Shelf>⟧.read_faults result ≡ 0 }
+        ensures write_faults { ⟦<DirShelf<'a, R> as Shelf>⟧.write_faults result ≡ 0 }
+        ensures misses { ⟦<DirShelf<'a, R> as Shelf>⟧.misses result ≡ 0 }
+    {
         DirShelf {
             rt,
             alloc,

@@ -94,8 +94,10 @@ pub(crate) fn put_file(
     name: &str,
     bytes: &[u8],
 ) -> Result<usize, AllocError>
-    ensures put { OnOk result (files_of files.new.items ≡ insert (files_of files.old.items) name.now bytes.now) }
-    ensures place { IfOk result (λ i. IsFirst files.new.items i × (name_at files.new.items i ≡ name.now)) }
+    ensures put { OnOk result (files_of files.new.items
+        ≡ insert (files_of files.old.items) name.now bytes.now) }
+    ensures place { IfOk result (λ i. IsFirst files.new.items i
+        × (name_at files.new.items i ≡ name.now)) }
     ensures names { NamesStay files.old.items files.new.items }
     ensures err { OnErr result (files.new.items ≡ files.old.items) }
 {

@@ -30,7 +30,8 @@ pub struct MemShelf {
 }
 
 impl Model for MemShelf {
-    ghost use Rattle.bl_outer.specs.Mem.{ShelfState, files_of, shelf_code};
+    ghost use Rattle.bl_outer.specs.Mem.{ShelfState, files_of};
+    ghost use Rattle.bl_outer.specs.Codes.{shelf_code};
 
     ghost Value = { ShelfState };
 
@@ -72,7 +73,8 @@ impl MemShelf {
 
     /// Puts a file, in place of what the name held. What is chosen stays chosen.
     pub fn set(&mut self, name: &str, bytes: &[u8]) -> Result<(), AllocError>
-        ensures ok { OnOk result (self.new ≡ record self.old { files = insert self.old.files name.now bytes.now }) }
+        ensures ok { OnOk result (self.new
+            ≡ record self.old { files = insert self.old.files name.now bytes.now }) }
         ensures err { OnErr result (self.new ≡ self.old) }
     {
         put_file(self.alloc, &mut self.files, name, bytes)?;
@@ -88,7 +90,8 @@ impl MemShelf {
     }
 
     fn fail_read(&mut self) -> ShelfFail
-        ensures { self.new ≡ record self.old { mode = Nothing; read_faults = counted self.old.read_faults } }
+        ensures { self.new
+            ≡ record self.old { mode = Nothing; read_faults = counted self.old.read_faults } }
     {
         self.chosen = Chosen::Nothing;
         self.read_faults = risen(self.read_faults);

@@ -1,6 +1,6 @@
-ghost use Rattle.std.specs.Prelude.{◌≡◌, [], Some, IsTrue, IsErr, IfOk, OnOk, OnErr};
+ghost use Rattle.std.specs.Prelude.{◌≡◌, Some, IsTrue, IsErr, IfOk, OnOk, OnErr};
 ghost use Rattle.bl_outer.specs.Count.{HasCause};
-ghost use Rattle.bl_outer.specs.Mem.{is_planned, after_call};
+ghost use Rattle.bl_outer.specs.Mem.{empty_sink, is_planned, after_call};
 ghost use Rattle.bl_outer.specs.Sink.{Adds, AddsPrefix};
 
 use crate::count::risen;
@@ -28,7 +28,7 @@ impl Model for MemSink {
 impl MemSink {
     /// An empty output. The numbers in `fails` count the calls of `put` from 1.
     pub fn new(alloc: Global, fails: &[u64]) -> Result<MemSink, AllocError>
-        ensures { IfOk result (λ sink. sink ≡ record { bytes = []; faults = 0; plan = record { fails = fails.now; calls = 0 } }) }
+        ensures { IfOk result (λ sink. sink ≡ empty_sink fails.now) }
     {
         Ok(MemSink {
             written: Vec::new(alloc),
