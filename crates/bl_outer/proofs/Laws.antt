@@ -1,5 +1,5 @@
 -- What crates above need of counts, pieces and what is told.
-use Rattle.std.proofs.Common.{◌≡◌, ℕ, ◌+◌, ◌-◌, ◌^◌, ◌<◌, ◌≤◌, min, List, [], ◌++◌, length, take, refl, sym, ap, ◌∙◌, arith, append_assoc}
+use Rattle.std.proofs.Common.{◌≡◌, ℕ, ◌+◌, ◌≤◌, min, List, [], ◌++◌, length, take, refl, sym, ap, ◌∙◌, arith, append_assoc}
 use Rattle.std.specs.Prelude.{None, Some}
 use Rattle.std.specs.declared.option.Option.{Option}
 use Rattle.std.specs.Option.{option_map}
@@ -7,7 +7,7 @@ use Rattle.std.specs.FinMap.{get}
 use Rattle.std.proofs.Math.Seq.{take-append-add}
 use Rattle.std.proofs.lemmas.List.{append-nil, take_min, take-append-le}
 use Rattle.bl_outer.specs.Count.{Rose}
-use Rattle.bl_outer.specs.Files.{Files, IfTold, Told, OthersStay, Appends, AppendsPrefix}
+use Rattle.bl_outer.specs.Files.{Files, IfTold, Told, Appends, AppendsPrefix}
 use Rattle.bl_outer.specs.Sink.{Adds, AddsPrefix}
 
 -- a count that rose in a part of a call rose in the call

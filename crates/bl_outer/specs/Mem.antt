@@ -1,5 +1,5 @@
 -- Files and output in memory, and the calls that are to fail.
-use Rattle.std.specs.Prelude.{◌≡◌, ◌≢◌, ℕ, ◌+◌, ◌<◌, ◌≤◌, ◌==◌, Bool, List, [], ◌∷◌, ◌++◌, length, slice_index_or}
+use Rattle.std.specs.Prelude.{◌≡◌, ◌≢◌, ℕ, ◌<◌, ◌≤◌, ◌==◌, Bool, List, [], length, slice_index_or}
 use Rattle.std.specs.List.{list_any}
 use Rattle.std.specs.FinMap.{from_entries}
 use Rattle.std.specs.FinMap as finmap
