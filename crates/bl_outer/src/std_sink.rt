@@ -1,4 +1,5 @@
-ghost use Rattle.std.specs.Prelude.{◌≡◌, None};
+ghost use Rattle.std.specs.Prelude.{◌≡◌, None, OnOk};
+ghost use Rattle.std.specs.Io.KnownBytes.{Appends};
 
 use crate::count::risen;
 use crate::sink::{Sink, SinkFail};
@@ -36,7 +37,10 @@ impl<W: Write> Sink for StdSink<W> {
     }
 }
 
-fn write_through<W: Write>(writer: &mut W, piece: &[u8]) -> io::Result<()> {
+/// Writes the whole piece and flushes it.
+fn write_through<W: Write>(writer: &mut W, piece: &[u8]) -> io::Result<()>
+    ensures { OnOk result (Appends (W.contents writer.old) (W.contents writer.new) piece.now) }
+{
     writer.write_all(piece)?;
     writer.flush()
 }
