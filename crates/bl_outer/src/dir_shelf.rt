@@ -19,7 +19,8 @@ pub(crate) enum ChosenFile<F> {
 }
 
 /// A folder of the file system. A relative name is taken from the folder, and an absolute one as it
-/// stands. A file that isn't there is missing, and anything else that goes wrong is a fault.
+/// stands. A file that isn't there is missing, and anything else that goes wrong is a fault; so are
+/// a folder in a file's place, want of memory for a path, and a byte past the first 2^64 - 1.
 ///
 /// It doesn't tell the files, so that no clause speaks of their bytes.
 #[derive(Drop)]
@@ -37,7 +38,7 @@ impl<'a, R: Files> DirShelf<'a, R> {
     ghost use Rattle.bl_outer.specs.Shelf.{Nothing, Reading, Writing};
     ghost use Rattle.bl_outer.specs.DirShelf.{mode_of};
 
-    /// The empty text is the current folder.
+    /// The shelf of a folder, of which the empty text is the current one.
     pub fn new(rt: &'a R, alloc: Global, folder: &'a str) -> DirShelf<'a, R>
         ensures chosen { ⟦<DirShelf<'a, R> as Shelf>⟧.mode result ≡ Nothing }
         ensures read_faults { ⟦<DirShelf<'a, R> as Shelf>⟧.read_faults result ≡ 0 }

@@ -17,7 +17,9 @@ pub(crate) enum Chosen {
     Writing { file: usize },
 }
 
-/// Files in memory. The calls of the trait that are to fail are told by number.
+/// Files in memory, which tell what they hold. The calls of the trait that are to fail are told by
+/// number. Such an `append` adds the first half of its piece; any other call that fails changes no
+/// file. A growth that finds no memory is a write fault too.
 #[derive(Drop)]
 pub struct MemShelf {
     alloc: Global,
@@ -81,7 +83,7 @@ impl MemShelf {
         Ok(())
     }
 
-    /// The bytes of the file of this name.
+    /// The bytes of the file of this name, or `None` where there is no such file.
     pub fn bytes(&self, name: &str) -> Option<&[u8]>
         ensures { option_map (λ bytes. bytes.now) result ≡ get self.now.files name.now }
     {

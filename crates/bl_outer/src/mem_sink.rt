@@ -9,7 +9,8 @@ use crate::sink::{Sink, SinkFail};
 use std::alloc::{AllocError, Global};
 use std::marker::Model;
 
-/// An output in memory. The calls of `put` that are to fail are told by number.
+/// An output in memory, which tells its bytes. The calls of `put` that are to fail are told by number,
+/// and add the first half of their piece. A growth that finds no memory is a fault too.
 #[derive(Drop)]
 pub struct MemSink {
     written: Vec<u8>,

@@ -8,7 +8,7 @@ use std::io::Write;
 
 /// A writer as an output, such as standard output or standard error. What `put` accepted is flushed.
 ///
-/// It doesn't tell the bytes.
+/// It doesn't tell the bytes, so that no clause speaks of them.
 #[derive(Drop)]
 pub struct StdSink<W: Write> {
     writer: W,
@@ -16,6 +16,7 @@ pub struct StdSink<W: Write> {
 }
 
 impl<W: Write> StdSink<W> {
+    /// The sink over a writer.
     pub fn new(writer: W) -> StdSink<W>
         ensures { ⟦<StdSink<W> as Sink>⟧.faults result ≡ 0 }
     {
