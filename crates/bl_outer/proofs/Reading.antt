@@ -1,11 +1,11 @@
 -- How the text of a file grows as its blocks are read.
 use Rattle.std.proofs.Common.{◌≡◌, ℕ, ◌+◌, ◌-◌, ◌<◌, ◌≤◌, List, [], ◌++◌, length, take, drop, min, refl, sym, ap, subst, ◌∙◌, arith, length-take, length-drop, length-append}
-use Rattle.std.specs.Prelude.{⊤, None, Some, IsSome, unwrap_or, Err, IsErrAnd}
+use Rattle.std.specs.Prelude.{None, Some, IsSome, unwrap_or, IsErrAnd}
 use Rattle.std.specs.declared.option.Option.{Option}
 use Rattle.std.specs.declared.result.Result.{Result}
 use Rattle.std.specs.FinMap.{get}
 use Rattle.std.proofs.Math.Seq.{take-add}
-use Rattle.std.proofs.lemmas.List.{take-append-drop, append-nil, take-take, length-take-le}
+use Rattle.std.proofs.lemmas.List.{take-append-drop, append-nil, take-take}
 use Rattle.std.proofs.lemmas.Result.{err_from_is_err_and}
 use Rattle.bl_outer.specs.declared.text.Got.{Got}
 use Rattle.bl_outer.specs.declared.text.ReadFail.{ReadFail}

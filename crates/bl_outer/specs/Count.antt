@@ -2,9 +2,13 @@
 use Rattle.std.specs.Prelude.{◌≡◌, ℕ, ◌+◌, ◌-◌, ◌^◌, ◌≤◌, min, Ok, Err}
 use Rattle.std.specs.declared.result.Result.{Result}
 
+-- one more, where a count stands still at its greatest value
+abbrev pub counted : ℕ → ℕ
+counted count = min (count + 1) (2 ^ 64 - 1)
+
 -- a count is higher than before, or stands at its greatest value
 abbrev pub Rose : ℕ → ℕ → Type 0
-Rose before now = min (before + 1) (2 ^ 64 - 1) ≤ now
+Rose before now = counted before ≤ now
 
 -- the count of faults rose in a call that failed, and stayed in any other
 abbrev pub HasCause : {T E : Type 0} → ℕ → ℕ → Result T E → Type 0

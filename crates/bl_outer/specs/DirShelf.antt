@@ -1,5 +1,5 @@
 -- What is chosen in a folder.
-use Rattle.std.specs.Prelude.{ℕ, string_bytes}
+use Rattle.std.specs.Prelude.{string_bytes}
 use Rattle.bl_outer.specs.declared.dir_shelf.ChosenFile.{ChosenFile}
 use Rattle.bl_outer.specs.declared.dir_shelf.ChosenFile.TheVariants as chosen
 use Rattle.bl_outer.specs.Shelf.{Mode, Nothing, Reading, Writing}

@@ -1,3 +1,4 @@
+pub mod Codes
 pub mod Count
 pub mod DirShelf
 pub mod Files

@@ -1,5 +1,4 @@
 -- What is chosen in a shelf in memory.
-use Rattle.std.specs.Prelude.{ℕ}
 use Rattle.bl_outer.specs.declared.mem_shelf.Chosen.{Chosen}
 use Rattle.bl_outer.specs.declared.mem_shelf.Chosen.TheVariants as chosen
 use Rattle.bl_outer.specs.Shelf.{Mode, Nothing, Reading, Writing}

@@ -1,5 +1,5 @@
 -- What the calls of a shelf choose, give and count.
-use Rattle.std.specs.Prelude.{◌≡◌, ℕ, ◌+◌, ◌≤◌, List, [], take, drop, length, ⊤, Ok, Err}
+use Rattle.std.specs.Prelude.{◌≡◌, ℕ, ◌+◌, ◌≤◌, List, [], take, drop, ⊤, Ok, Err}
 use Rattle.std.specs.declared.result.Result.{Result}
 use Rattle.bl_outer.specs.declared.shelf.Found.{Found}
 use Rattle.bl_outer.specs.declared.shelf.Found.TheVariants.{Here, Missing}

@@ -1,5 +1,5 @@
 -- What reading a whole file answers and leaves.
-use Rattle.std.specs.Prelude.{◌≡◌, ℕ, ◌<◌, ◌≤◌, List, [], ◌++◌, take, length, Ok, Err}
+use Rattle.std.specs.Prelude.{◌≡◌, ℕ, ◌<◌, ◌≤◌, List, ◌++◌, take, length, Ok, Err}
 use Rattle.std.specs.declared.result.Result.{Result}
 use Rattle.bl_outer.specs.declared.text.Got.{Got}
 use Rattle.bl_outer.specs.declared.text.Got.TheVariants.{Whole, Missing, Longer}

@@ -1,6 +1,6 @@
 ghost use Rattle.std.specs.Prelude.{◌≡◌, ◌+◌, ◌≤◌, None, IfOk, OnErr, drop, length};
 
-use crate::plan::risen;
+use crate::count::risen;
 use crate::shelf::{Found, Shelf, ShelfFail};
 use std::alloc::Global;
 use std::io::{ErrorKind, Read, Write};
@@ -19,7 +19,8 @@ pub(crate) enum ChosenFile<F> {
 }
 
 /// A folder of the file system. A relative name is taken from the folder, and an absolute one as it
-/// stands. A file that isn't there is missing, and anything else that goes wrong is a fault.
+/// stands. A file that isn't there is missing, and anything else that goes wrong is a fault; so are
+/// a folder in a file's place, want of memory for a path, and a byte past the first 2^64 - 1.
 ///
 /// It doesn't tell the files, so that no clause speaks of their bytes.
 #[derive(Drop)]
@@ -34,11 +35,16 @@ pub struct DirShelf<'a, R: Files> {
 }
 
 impl<'a, R: Files> DirShelf<'a, R> {
-    ghost use Rattle.bl_outer.specs.Shelf.{Reading, Writing};
+    ghost use Rattle.bl_outer.specs.Shelf.{Nothing, Reading, Writing};
     ghost use Rattle.bl_outer.specs.DirShelf.{mode_of};
 
-    /// The empty text is the current folder.
-    pub fn new(rt: &'a R, alloc: Global, folder: &'a str) -> DirShelf<'a, R> {
+    /// The shelf of a folder, of which the empty text is the current one.
+    pub fn new(rt: &'a R, alloc: Global, folder: &'a str) -> DirShelf<'a, R>
+        ensures chosen { ⟦<DirShelf<'a, R> as Shelf>⟧.mode result ≡ Nothing }
+        ensures read_faults { ⟦<DirShelf<'a, R> as Shelf>⟧.read_faults result ≡ 0 }
+        ensures write_faults { ⟦<DirShelf<'a, R> as Shelf>⟧.write_faults result ≡ 0 }
+        ensures misses { ⟦<DirShelf<'a, R> as Shelf>⟧.misses result ≡ 0 }
+    {
         DirShelf {
             rt,
             alloc,

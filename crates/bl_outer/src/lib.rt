@@ -1,6 +1,10 @@
-//! The outside, as traits that count what goes wrong: files (`Shelf`), outputs (`Sink`) and a gate.
+//! The outside, as traits: files (`Shelf`), outputs (`Sink`) and a gate (`Gate`).
+//!
+//! Whatever goes wrong outside is counted there, so that a caller's answer has a cause that a contract
+//! can name. What the files and outputs hold is told where they can tell it, as those in memory do.
 #![tactic(auto)]
 
+mod count;
 mod dir_shelf;
 mod gate;
 mod mem_file;
@@ -10,6 +14,8 @@ mod plan;
 mod shelf;
 mod sink;
 mod std_sink;
+#[cfg(test)]
+mod tests;
 mod text;
 
 pub use dir_shelf::DirShelf;

@@ -94,8 +94,10 @@ pub(crate) fn put_file(
     name: &str,
     bytes: &[u8],
 ) -> Result<usize, AllocError>
-    ensures put { OnOk result (files_of files.new.items ≡ insert (files_of files.old.items) name.now bytes.now) }
-    ensures place { IfOk result (λ i. IsFirst files.new.items i × (name_at files.new.items i ≡ name.now)) }
+    ensures put { OnOk result (files_of files.new.items
+        ≡ insert (files_of files.old.items) name.now bytes.now) }
+    ensures place { IfOk result (λ i. IsFirst files.new.items i
+        × (name_at files.new.items i ≡ name.now)) }
     ensures names { NamesStay files.old.items files.new.items }
     ensures err { OnErr result (files.new.items ≡ files.old.items) }
 {
@@ -116,8 +118,10 @@ pub(crate) fn put_file(
 /// and says whether the whole piece was added.
 pub(crate) fn append_at(files: &mut [MemFile], file: usize, piece: &[u8], fails: bool) -> bool
     requires { IsFirst files.old file }
-    ensures whole { OnTrue result (Appends (name_at files.old file) piece.now (files_of files.old) (files_of files.new)) }
-    ensures part { OnFalse result (AppendsPrefix (name_at files.old file) piece.now (files_of files.old) (files_of files.new)) }
+    ensures whole { OnTrue result (Appends (name_at files.old file) piece.now
+        (files_of files.old) (files_of files.new)) }
+    ensures part { OnFalse result (AppendsPrefix (name_at files.old file) piece.now
+        (files_of files.old) (files_of files.new)) }
     ensures planned { OnTrue result (fails ≡ false) }
     ensures names { NamesStay files.old files.new }
 {

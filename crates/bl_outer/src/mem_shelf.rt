@@ -2,8 +2,9 @@ ghost use Rattle.std.specs.Prelude.{◌≡◌, ◌-◌, ◌<◌, ◌≤◌, [], 
 ghost use Rattle.std.specs.Option.{option_map};
 ghost use Rattle.std.specs.FinMap.{empty, get, insert};
 
+use crate::count::risen;
 use crate::mem_file::{MemFile, append_at, bytes_at, place_of, put_file};
-use crate::plan::{CallPlan, risen};
+use crate::plan::CallPlan;
 use crate::shelf::{Found, Shelf, ShelfFail};
 use std::alloc::{AllocError, Global};
 use std::marker::Model;
@@ -16,7 +17,9 @@ pub(crate) enum Chosen {
     Writing { file: usize },
 }
 
-/// Files in memory. The calls of the trait that are to fail are told by number.
+/// Files in memory, which tell what they hold. The calls of the trait that are to fail are told by
+/// number. Such an `append` adds the first half of its piece; any other call that fails changes no
+/// file. A growth that finds no memory is a write fault too.
 #[derive(Drop)]
 pub struct MemShelf {
     alloc: Global,
@@ -29,7 +32,8 @@ pub struct MemShelf {
 }
 
 impl Model for MemShelf {
-    ghost use Rattle.bl_outer.specs.Mem.{ShelfState, files_of, shelf_code};
+    ghost use Rattle.bl_outer.specs.Mem.{ShelfState, files_of};
+    ghost use Rattle.bl_outer.specs.Codes.{shelf_code};
 
     ghost Value = { ShelfState };
 
@@ -50,7 +54,8 @@ impl Model for MemShelf {
 }
 
 impl MemShelf {
-    ghost use Rattle.bl_outer.specs.Mem.{empty_shelf, counted};
+    ghost use Rattle.bl_outer.specs.Mem.{empty_shelf};
+    ghost use Rattle.bl_outer.specs.Count.{counted};
     ghost use Rattle.bl_outer.specs.Shelf.{Nothing};
 
     /// No files. The numbers in `fails` count the calls of the trait from 1.
@@ -70,14 +75,15 @@ impl MemShelf {
 
     /// Puts a file, in place of what the name held. What is chosen stays chosen.
     pub fn set(&mut self, name: &str, bytes: &[u8]) -> Result<(), AllocError>
-        ensures ok { OnOk result (self.new ≡ record self.old { files = insert self.old.files name.now bytes.now }) }
+        ensures ok { OnOk result (self.new
+            ≡ record self.old { files = insert self.old.files name.now bytes.now }) }
         ensures err { OnErr result (self.new ≡ self.old) }
     {
         put_file(self.alloc, &mut self.files, name, bytes)?;
         Ok(())
     }
 
-    /// The bytes of the file of this name.
+    /// The bytes of the file of this name, or `None` where there is no such file.
     pub fn bytes(&self, name: &str) -> Option<&[u8]>
         ensures { option_map (λ bytes. bytes.now) result ≡ get self.now.files name.now }
     {
@@ -86,7 +92,8 @@ impl MemShelf {
     }
 
     fn fail_read(&mut self) -> ShelfFail
-        ensures { self.new ≡ record self.old { mode = Nothing; read_faults = counted self.old.read_faults } }
+        ensures { self.new
+            ≡ record self.old { mode = Nothing; read_faults = counted self.old.read_faults } }
     {
         self.chosen = Chosen::Nothing;
         self.read_faults = risen(self.read_faults);
@@ -204,8 +211,10 @@ impl Shelf for MemShelf {
         requires writing { IsWriting self.old.mode }
 
         ensures chosen { self.new.mode ≡ self.old.mode }
-        ensures ok { OnOk result (Appends (chosen_name self.old.mode) piece.now self.old.files self.new.files) }
-        ensures err { OnErr result (AppendsPrefix (chosen_name self.old.mode) piece.now self.old.files self.new.files) }
+        ensures ok { OnOk result (Appends (chosen_name self.old.mode) piece.now
+            self.old.files self.new.files) }
+        ensures err { OnErr result (AppendsPrefix (chosen_name self.old.mode) piece.now
+            self.old.files self.new.files) }
 
         ensures write_cause { HasCause self.old.write_faults self.new.write_faults result }
         ensures read_faults { self.new.read_faults ≡ self.old.read_faults }

@@ -1,14 +1,16 @@
-ghost use Rattle.std.specs.Prelude.{◌≡◌, [], Some, IsTrue, IsErr, IfOk, OnOk, OnErr};
+ghost use Rattle.std.specs.Prelude.{◌≡◌, Some, IsTrue, IsErr, IfOk, OnOk, OnErr};
 ghost use Rattle.bl_outer.specs.Count.{HasCause};
-ghost use Rattle.bl_outer.specs.Mem.{is_planned, after_call};
+ghost use Rattle.bl_outer.specs.Mem.{empty_sink, is_planned, after_call};
 ghost use Rattle.bl_outer.specs.Sink.{Adds, AddsPrefix};
 
-use crate::plan::{CallPlan, add_piece, risen};
+use crate::count::risen;
+use crate::plan::{CallPlan, add_piece};
 use crate::sink::{Sink, SinkFail};
 use std::alloc::{AllocError, Global};
 use std::marker::Model;
 
-/// An output in memory. The calls of `put` that are to fail are told by number.
+/// An output in memory, which tells its bytes. The calls of `put` that are to fail are told by number,
+/// and add the first half of their piece. A growth that finds no memory is a fault too.
 #[derive(Drop)]
 pub struct MemSink {
     written: Vec<u8>,
@@ -27,7 +29,7 @@ impl Model for MemSink {
 impl MemSink {
     /// An empty output. The numbers in `fails` count the calls of `put` from 1.
     pub fn new(alloc: Global, fails: &[u64]) -> Result<MemSink, AllocError>
-        ensures { IfOk result (λ sink. sink ≡ record { bytes = []; faults = 0; plan = record { fails = fails.now; calls = 0 } }) }
+        ensures { IfOk result (λ sink. sink ≡ empty_sink fails.now) }
     {
         Ok(MemSink {
             written: Vec::new(alloc),

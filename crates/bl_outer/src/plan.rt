@@ -1,18 +1,12 @@
 // Which calls of a shelf or a sink in memory are to fail.
 ghost use Rattle.std.specs.Prelude.{◌≡◌, ◌++◌, false, IfOk};
 ghost use Rattle.std.specs.Bool.{OnTrue, OnFalse};
-ghost use Rattle.bl_outer.specs.Mem.{counted, is_planned, after_call};
+ghost use Rattle.bl_outer.specs.Mem.{is_planned, after_call};
 ghost use Rattle.bl_outer.specs.Sink.{Adds, AddsPrefix};
 
+use crate::count::risen;
 use std::alloc::{AllocError, Global};
 use std::marker::Model;
-
-/// One more, or the same at the greatest number.
-pub(crate) fn risen(count: u64) -> u64
-    ensures { result ≡ counted count }
-{
-    count.saturating_add(1)
-}
 
 /// Counts calls, and knows by their numbers which are to fail.
 #[derive(Drop)]

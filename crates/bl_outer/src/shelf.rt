@@ -11,13 +11,17 @@ pub struct ShelfFail;
 /// Whether a file of the name is there.
 #[derive(Clone, Copy, Debug, PartialEq, Eq)]
 pub enum Found {
+    /// The file is there, and is chosen.
     Here,
+    /// There is no file of the name.
     Missing,
 }
 
 /// A set of files, one of which may be chosen at a time, to be read or to be written.
 ///
-/// The counts never fall. At 2^64 - 1 a count stands still, and "rose" is read as "stands there".
+/// Each failure and each miss is counted, so that a caller who answers one can show its cause. The
+/// counts never fall, and a call raises none but its own. At 2^64 - 1 a count stands still, and "rose"
+/// is read as "stands there".
 pub trait Shelf {
     /// The files by name, or `None` where the shelf doesn't tell. Whether they are told never changes.
     ghost contents: { Self → Option Files };
@@ -52,7 +56,8 @@ pub trait Shelf {
 
         ensures chosen { mode self.new ≡ mode_read (mode self.old) result }
         ensures count { IfOk result (λ n. n ≤ length into.old) }
-        ensures bytes { IfOk result (λ n. IfTold (contents self.old) (GivesNext (mode self.old) n into.new)) }
+        ensures bytes { IfOk result (λ n. IfTold
+            (contents self.old) (GivesNext (mode self.old) n into.new)) }
         ensures rest { IfOk result (λ n. drop n into.new ≡ drop n into.old) }
         ensures err { OnErr result (into.new ≡ into.old) }
         ensures files { contents self.new ≡ contents self.old }
@@ -63,22 +68,27 @@ pub trait Shelf {
 
     /// Makes the file empty, and chooses it for writing.
     /// A file that was chosen earlier stays as it stands.
+    /// After a failure the file is as before, or empty.
     fn begin(&mut self, name: &str) -> Result<(), ShelfFail>
         ensures chosen { mode self.new ≡ mode_begun name.now result }
         ensures ok { OnOk result (Told (Empties name.now) (contents self.old) (contents self.new)) }
-        ensures err { OnErr result (Told (StaysOrEmpties name.now) (contents self.old) (contents self.new)) }
+        ensures err { OnErr result (Told (StaysOrEmpties name.now)
+            (contents self.old) (contents self.new)) }
 
         ensures write_cause { HasCause (write_faults self.old) (write_faults self.new) result }
         ensures read_faults { read_faults self.new ≡ read_faults self.old }
         ensures misses { misses self.new ≡ misses self.old };
 
     /// Adds the piece at the end of the chosen file, which stays chosen.
+    /// After a failure some first bytes of the piece were added.
     fn append(&mut self, piece: &[u8]) -> Result<(), ShelfFail>
         requires writing { IsWriting (mode self.old) }
 
         ensures chosen { mode self.new ≡ mode self.old }
-        ensures ok { OnOk result (Told (Appends (chosen_name (mode self.old)) piece.now) (contents self.old) (contents self.new)) }
-        ensures err { OnErr result (Told (AppendsPrefix (chosen_name (mode self.old)) piece.now) (contents self.old) (contents self.new)) }
+        ensures ok { OnOk result (Told (Appends (chosen_name (mode self.old)) piece.now)
+            (contents self.old) (contents self.new)) }
+        ensures err { OnErr result (Told (AppendsPrefix (chosen_name (mode self.old)) piece.now)
+            (contents self.old) (contents self.new)) }
 
         ensures write_cause { HasCause (write_faults self.old) (write_faults self.new) result }
         ensures read_faults { read_faults self.new ≡ read_faults self.old }

@@ -18,7 +18,7 @@ pub trait Sink {
     /// How many calls of `put` have failed.
     ghost faults: { Self → ℕ };
 
-    /// Adds the piece at the end.
+    /// Adds the piece at the end. After a failure some first bytes of it were added.
     fn put(&mut self, piece: &[u8]) -> Result<(), SinkFail>
         ensures ok { OnOk result (Told (Adds piece.now) (bytes self.old) (bytes self.new)) }
         ensures err { OnErr result (Told (AddsPrefix piece.now) (bytes self.old) (bytes self.new)) }

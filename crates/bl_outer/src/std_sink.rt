@@ -1,13 +1,14 @@
-ghost use Rattle.std.specs.Prelude.{None};
+ghost use Rattle.std.specs.Prelude.{◌≡◌, None, OnOk};
+ghost use Rattle.std.specs.Io.KnownBytes.{Appends};
 
-use crate::plan::risen;
+use crate::count::risen;
 use crate::sink::{Sink, SinkFail};
 use std::io;
 use std::io::Write;
 
 /// A writer as an output, such as standard output or standard error. What `put` accepted is flushed.
 ///
-/// It doesn't tell the bytes.
+/// It doesn't tell the bytes, so that no clause speaks of them.
 #[derive(Drop)]
 pub struct StdSink<W: Write> {
     writer: W,
@@ -15,7 +16,10 @@ pub struct StdSink<W: Write> {
 }
 
 impl<W: Write> StdSink<W> {
-    pub fn new(writer: W) -> StdSink<W> {
+    /// The sink over a writer.
+    pub fn new(writer: W) -> StdSink<W>
+        ensures { ⟦<StdSink<W> as Sink>⟧.faults result ≡ 0 }
+    {
         StdSink { writer, faults: 0 }
     }
 }
@@ -34,7 +38,10 @@ impl<W: Write> Sink for StdSink<W> {
     }
 }
 
-fn write_through<W: Write>(writer: &mut W, piece: &[u8]) -> io::Result<()> {
+/// Writes the whole piece and flushes it.
+fn write_through<W: Write>(writer: &mut W, piece: &[u8]) -> io::Result<()>
+    ensures { OnOk result (Appends (W.contents writer.old) (W.contents writer.new) piece.now) }
+{
     writer.write_all(piece)?;
     writer.flush()
 }

@@ -73,10 +73,12 @@ pub fn read_text<F: Shelf>(
 fn read_on<F: Shelf>(files: &mut F, limit: u64, into: &mut Vec<u8>) -> Result<Got, ReadFail>
     requires reading { IsReading (F.mode files.old) }
     requires at_front { chosen_place (F.mode files.old) ≡ 0 }
-    requires there { IfTold (F.contents files.old) (λ told. IsPresent told (chosen_name (F.mode files.old))) }
+    requires there { IfTold
+        (F.contents files.old) (λ told. IsPresent told (chosen_name (F.mode files.old))) }
     requires empty { into.old.items ≡ [] }
 
-    ensures text { IfTold (F.contents files.old) (IsRead result (chosen_name (F.mode files.old)) limit into.new.items) }
+    ensures text { IfTold
+        (F.contents files.old) (IsRead result (chosen_name (F.mode files.old)) limit into.new.items) }
     ensures length { HasLength result limit (vec_len into.new) }
     ensures files { F.contents files.new ≡ F.contents files.old }
 

@@ -1,4 +1,4 @@
-use Rattle.std.proofs.Common.{◌≡◌, ◌≢◌, ℕ, ◌<◌}
+use Rattle.std.proofs.Common.{◌≢◌, ℕ, ◌<◌}
 use Rattle.bl_outer.specs.Mem.{name_at}
 use Rattle.bl_outer.proofs.mem_file.place_of.Given as goal
 

@@ -1,4 +1,4 @@
-use Rattle.std.proofs.Common.{arith, vec_len, ap, ◌∙◌, ◌≡◌, ℕ, ◌-◌, length, List, [], ◌∷◌, ◌++◌}
+use Rattle.std.proofs.Common.{arith, ap, ◌∙◌, ◌≡◌, ℕ, ◌-◌, length, List, [], ◌∷◌, ◌++◌}
 use Rattle.bl_outer.proofs.Entries.{put_over, put_last, last_place}
 use Rattle.bl_outer.proofs.mem_file.put_file.Goals as goal
 

@@ -1,5 +1,4 @@
-use Rattle.std.proofs.Common.{rules, ◌≡◌, vec_len, ℕ, ◌-◌, ◌<◌, ◌≤◌, length, [], ap, ◌∙◌, arith}
-use Rattle.bl_outer.specs.Files.{IfTold}
+use Rattle.std.proofs.Common.{rules, ◌≡◌, ◌≤◌, length, [], ap, ◌∙◌, arith}
 use Rattle.bl_outer.proofs.Reading.{length_more, mode_more, failed_read, more_read, whole_read, cut_read}
 use Rattle.bl_outer.proofs.text.read_on.Goals as goal
 
