@@ -1,0 +1,4 @@
+pub mod GcdLaws
+pub mod Signed
+pub mod Ratios
+pub mod LowestTerms
