@@ -2,3 +2,5 @@ pub mod GcdLaws
 pub mod Signed
 pub mod Ratios
 pub mod LowestTerms
+pub mod Shares
+pub mod Terms

@@ -76,7 +76,7 @@ ratios_by_rests p q r s e =
     let second : r * q ≡ common + (r % s) * q = ap (λ x. x * q) (sym turned) ∙ omega arith in
     ap (λ x. nat_cmp x (r * q)) first ∙ ap (λ y. nat_cmp (common + (p % q) * s) y) second ∙ nat_cmp-offset common ((p % q) * s) ((r % s) * q)
 
-product_positive : (m n : ℕ) → 0 < m → 0 < n → 0 < m * n
+pub product_positive : (m n : ℕ) → 0 < m → 0 < n → 0 < m * n
 product_positive m n hm hn = omega (arith, mul-lt-mul_of_pos_right hm hn)
 
 rest_alone : (t u q s : ℕ) → 0 < q → t ≡ 0 → nat_cmp t u ≡ nat_cmp (t * s) (u * q)

@@ -71,3 +71,10 @@ narrowed_value z y x r h e same =
 -- what a checked step refused is wide
 pub narrowed_error : (z y : ℤ) (e : WideFrac) (r : Result ℤ WideFrac) → IsNarrowed z r → r ≡ Err e → z ≡ y → narrow y ≡ false
 narrowed_error z y e r h is same = subst (λ w. narrow w ≡ false) same (subst (IsNarrowed z) is h)
+
+-- a number that landed: what it is, that it is narrow, and how the code reads it again
+pub landed : (x z y : ℤ) → (x ≡ z) × (narrow z ≡ true) → z ≡ y → (x ≡ y) × (narrow y ≡ true) × (to_z w128 (of_z w128 x) ≡ y)
+landed x z y h same =
+    let value : x ≡ y = h.0 ∙ same in
+    let test : narrow y ≡ true = subst (λ w. narrow w ≡ true) same h.1 in
+    (value, test, ap (λ w. to_z w128 (of_z w128 w)) value ∙ signed_back y (narrow_from_test y test))
