@@ -82,20 +82,21 @@ pub coprime-mul : (a b c : ℕ) → gcd a c ≡ 1 → gcd b c ≡ 1 → gcd (a *
 coprime-mul a b c ea eb =
     coprime_from (a * b) c
     (λ d p q.
-        let apart : gcd d a ≡ 1 = coprime_of_dvd c a d (coprime_swap a c ea) q in
-        let turned : d ∣ b * a = subst (λ x. d ∣ x) (mul_comm a b) p in
-        common_of_coprime b c d eb (dvd_of_coprime d b a apart turned) q)
+    let apart : gcd d a ≡ 1 = coprime_of_dvd c a d (coprime_swap a c ea) q in
+    let turned : d ∣ b * a = subst (λ x. d ∣ x) (mul_comm a b) p in
+    common_of_coprime b c d eb (dvd_of_coprime d b a apart turned) q)
 
 -- a coprime factor changes nothing
 pub gcd-mul_coprime : (t p m : ℕ) → gcd t p ≡ 1 → gcd t (p * m) ≡ gcd t m
 gcd-mul_coprime t p m e =
-    gcd-unique t (p * m) (gcd t m)
-    (gcd_dvd_left t m,
-     dvd-mul_left_of_dvd (gcd t m) (gcd_dvd_right t m) p,
-     λ d h k.
-        let apart : gcd d p ≡ 1 = coprime_of_dvd t p d e h in
-        let turned : d ∣ m * p = subst (λ x. d ∣ x) (mul_comm p m) k in
-        dvd_gcd t m d h (dvd_of_coprime d m p apart turned))
+    gcd-unique t (p * m) (gcd t m) (
+      gcd_dvd_left t m,
+      dvd-mul_left_of_dvd (gcd t m) (gcd_dvd_right t m) p,
+      λ d h k.
+          let apart : gcd d p ≡ 1 = coprime_of_dvd t p d e h in
+          let turned : d ∣ m * p = subst (λ x. d ∣ x) (mul_comm p m) k in
+          dvd_gcd t m d h (dvd_of_coprime d m p apart turned),
+    )
 
 -- divided by their greatest common divisor, two numbers are coprime
 pub coprime_shares : (a b : ℕ) → 0 < b → gcd (a / gcd a b) (b / gcd a b) ≡ 1

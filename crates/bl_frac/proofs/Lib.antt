@@ -4,3 +4,5 @@ pub mod Ratios
 pub mod LowestTerms
 pub mod Shares
 pub mod Terms
+pub mod WholeLaws
+pub mod Rationals

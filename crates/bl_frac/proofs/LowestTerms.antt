@@ -5,7 +5,7 @@ use Rattle.std.specs.Int.Signed.{lt_z}
 use Rattle.std.proofs.lemmas.Int.{ints, unsigned_abs-mul}
 use Rattle.std.proofs.Math.Nat.{div-le_self}
 use Rattle.bl_frac.specs.Gcd.{gcd}
-use Rattle.bl_frac.specs.Fraction.{Fraction, IsReduced, lowest, sum_top, sum_bottom, product_top, product_bottom}
+use Rattle.bl_frac.specs.Fraction.{Fraction, IsReduced, lowest, with_sign_of, reciprocal, sum_top, sum_bottom, product_top, product_bottom}
 use Rattle.bl_frac.proofs.GcdLaws.{gcd_comm, gcd_one, gcd_dvd_left, gcd_dvd_right, coprime_shares, share_positive}
 use Rattle.bl_frac.proofs.Signed.{signed_back, signed_of}
 use Rattle.bl_frac.proofs.Ratios.{not_below_zero, product_positive}
@@ -72,7 +72,7 @@ pub parts_of_sum : (a b : Fraction) (t s : ℤ) (bottom common k : ℕ) → IsRe
 unfolding lowest
 parts_of_sum a b t s bottom common k ha hb et eb ec es ek =
     let same : gcd (unsigned_abs (sum_top a b)) (sum_bottom a b) ≡ gcd (unsigned_abs (sum_top a b)) (gcd a.den b.den) =
-        gcd_of_sum a.num b.num a.den b.den ha.den_positive hb.den_positive ha.coprime hb.coprime in
+    gcd_of_sum a.num b.num a.den b.den ha.den_positive hb.den_positive ha.coprime hb.coprime in
     let divisor : common ≡ gcd (unsigned_abs (sum_top a b)) (sum_bottom a b) = ec ∙ sym same in
     let num : s ≡ int_div (sum_top a b) (pos (gcd (unsigned_abs (sum_top a b)) (sum_bottom a b))) = es ∙ ap (λ x. int_div x (pos common)) et ∙ ap (λ x. int_div (sum_top a b) (pos x)) divisor in
     let den : k ≡ sum_bottom a b / gcd (unsigned_abs (sum_top a b)) (sum_bottom a b) = ek ∙ ap (λ x. x / common) eb ∙ ap (λ x. sum_bottom a b / x) divisor in
@@ -111,12 +111,19 @@ IsReduced-product a b ha hb ht hd =
     let g = gcd (unsigned_abs a.num) b.den in
     let h = gcd (unsigned_abs b.num) a.den in
     let size : unsigned_abs (product_top a b) ≡ (unsigned_abs a.num / g) * (unsigned_abs b.num / h) =
-        unsigned_abs-mul (int_div a.num (pos g)) (int_div b.num (pos h)) ∙ ap (λ x. x * unsigned_abs (int_div b.num (pos h))) (magnitude-share a.num g) ∙ ap (λ x. (unsigned_abs a.num / g) * x) (magnitude-share b.num h) in
+    unsigned_abs-mul (int_div a.num (pos g)) (int_div b.num (pos h)) ∙ ap (λ x. x * unsigned_abs (int_div b.num (pos h))) (magnitude-share a.num g) ∙ ap (λ x. (unsigned_abs a.num / g) * x) (magnitude-share b.num h) in
     record {
       num_narrow = ht;
       den_narrow = hd;
       den_positive =
-        product_positive (a.den / h) (b.den / g) (share_positive a.den h ha.den_positive (gcd_dvd_right (unsigned_abs b.num) a.den)) (share_positive b.den g hb.den_positive (gcd_dvd_right (unsigned_abs a.num) b.den));
+          product_positive (a.den / h) (b.den / g) (share_positive a.den h ha.den_positive (gcd_dvd_right (unsigned_abs b.num) a.den)) (share_positive b.den g hb.den_positive (gcd_dvd_right (unsigned_abs a.num) b.den));
       coprime =
-        ap (λ x. gcd x (product_bottom a b)) size ∙ coprime_products (unsigned_abs a.num) a.den (unsigned_abs b.num) b.den ha.den_positive hb.den_positive ha.coprime hb.coprime;
+          ap (λ x. gcd x (product_bottom a b)) size ∙ coprime_products (unsigned_abs a.num) a.den (unsigned_abs b.num) b.den ha.den_positive hb.den_positive ha.coprime hb.coprime;
     }
+
+magnitude-with_sign_of : (z : ℤ) (n : ℕ) → unsigned_abs (with_sign_of z n) ≡ n
+magnitude-with_sign_of (pos k) n = refl
+magnitude-with_sign_of (negsuc k) n = magnitude-neg n
+
+pub IsReduced-reciprocal : (f : Fraction) → IsReduced f → (f.num ≡ pos 0 → ⊥) → IsReduced (reciprocal f)
+IsReduced-reciprocal f h nonzero = swapped f.num f.den _ _ h (magnitude-with_sign_of f.num f.den) refl (nonzero_size f.num nonzero)

@@ -41,10 +41,12 @@ int_cmp-neg (suc x) (suc y) = grind (arith, nat_tests)
 nat_cmp-same : (x y u v : ℕ) → (x < y → u < v) → (y < x → v < u) → (x ≡ y → u ≡ v) → nat_cmp x y ≡ nat_cmp u v
 nat_cmp-same x y u v less greater equal =
     elim (cases_order x y) [
-      inl e ↦ nat_cmp-equal x y e ∙ sym (nat_cmp-equal u v (equal e))
-    | inr w ↦ elim w [
-        inl l ↦ nat_cmp-less x y l ∙ sym (nat_cmp-less u v (less l))
-      | inr g ↦ nat_cmp-greater x y g ∙ sym (nat_cmp-greater u v (greater g)) ] ]
+      | inl e ↦ nat_cmp-equal x y e ∙ sym (nat_cmp-equal u v (equal e))
+      | inr w ↦ elim w [
+        | inl l ↦ nat_cmp-less x y l ∙ sym (nat_cmp-less u v (less l))
+        | inr g ↦ nat_cmp-greater x y g ∙ sym (nat_cmp-greater u v (greater g))
+      ]
+    ]
 
 -- with a smaller whole part the ratio is smaller
 whole_part_less : (k l q s t u : ℕ) → t < q → 0 < s → k < l → (k * q + t) * s < (l * s + u) * q
@@ -85,9 +87,9 @@ rest_alone t u q s hq e =
     (λ l. let none : t * s ≡ 0 = ap (λ x. x * s) e ∙ omega arith in omega (arith, product_positive u q (omega arith) hq))
     (λ l. absurd (omega arith))
     (λ z.
-        let left : t * s ≡ 0 * s = ap (λ x. x * s) e in
-        let right : u * q ≡ 0 * q = ap (λ x. x * q) (sym z ∙ e) in
-        omega arith)
+    let left : t * s ≡ 0 * s = ap (λ x. x * s) e in
+    let right : u * q ≡ 0 * q = ap (λ x. x * q) (sym z ∙ e) in
+    omega arith)
 
 nat_cmp_turned : (x y u v : ℕ) → nat_cmp y x ≡ nat_cmp v u → nat_cmp x y ≡ nat_cmp u v
 nat_cmp_turned x y u v h = grind (arith, nat_tests)
@@ -95,8 +97,9 @@ nat_cmp_turned x y u v h = grind (arith, nat_tests)
 pub ratios_at_zero : (t u q s : ℕ) → 0 < q → 0 < s → (t ≡ 0) ⊎ ((t ≡ 0 → ⊥) × (u ≡ 0)) → nat_cmp t u ≡ nat_cmp (t * s) (u * q)
 ratios_at_zero t u q s hq hs h =
     elim h [
-      inl e ↦ rest_alone t u q s hq e
-    | inr w ↦ nat_cmp_turned t u (t * s) (u * q) (rest_alone u t s q hs w.1) ]
+      | inl e ↦ rest_alone t u q s hq e
+      | inr w ↦ nat_cmp_turned t u (t * s) (u * q) (rest_alone u t s q hs w.1)
+    ]
 
 -- ---- by the signs
 

@@ -27,14 +27,16 @@ magnitudes (negsuc a) (negsuc b) = inr (inl (omega arith))
 dvd_other : (x y : ℤ) (d : ℕ) → d ∣ unsigned_abs (x +ℤ y) → d ∣ unsigned_abs y → d ∣ unsigned_abs x
 dvd_other x y d h k =
     elim (magnitudes x y) [
-      inl e ↦ subst (λ n. d ∣ n) (sym e) (dvd-add d h k)
-    | inr w ↦ elim w [
-        inl e ↦
-          let part : unsigned_abs (x +ℤ y) - unsigned_abs y ≡ unsigned_abs x = omega arith in
-          subst (λ n. d ∣ n) part (dvd-sub d h k)
-      | inr e ↦
-          let part : unsigned_abs y - unsigned_abs (x +ℤ y) ≡ unsigned_abs x = omega arith in
-          subst (λ n. d ∣ n) part (dvd-sub d k h) ] ]
+      | inl e ↦ subst (λ n. d ∣ n) (sym e) (dvd-add d h k)
+      | inr w ↦ elim w [
+        | inl e ↦
+            let part : unsigned_abs (x +ℤ y) - unsigned_abs y ≡ unsigned_abs x = omega arith in
+            subst (λ n. d ∣ n) part (dvd-sub d h k)
+        | inr e ↦
+            let part : unsigned_abs y - unsigned_abs (x +ℤ y) ≡ unsigned_abs x = omega arith in
+            subst (λ n. d ∣ n) part (dvd-sub d k h)
+      ]
+    ]
 
 -- a factor of one term that is coprime to the other term is coprime to the sum
 coprime_sum : (x y : ℤ) (p : ℕ) → p ∣ unsigned_abs y → gcd (unsigned_abs x) p ≡ 1 → gcd (unsigned_abs (x +ℤ y)) p ≡ 1
@@ -48,7 +50,7 @@ coprime_term m d e hd he h =
     let g = gcd d e in
     let size : unsigned_abs (m *ℤ pos (e / g)) ≡ unsigned_abs m * (e / g) = unsigned_abs-mul m (pos (e / g)) in
     let own : gcd (unsigned_abs m) (d / g) ≡ 1 =
-        coprime_swap (d / g) (unsigned_abs m) (coprime_of_dvd d (unsigned_abs m) (d / g) (coprime_swap (unsigned_abs m) d h) (share_dvd d g (gcd_dvd_left d e))) in
+    coprime_swap (d / g) (unsigned_abs m) (coprime_of_dvd d (unsigned_abs m) (d / g) (coprime_swap (unsigned_abs m) d h) (share_dvd d g (gcd_dvd_left d e))) in
     let apart : gcd (e / g) (d / g) ≡ 1 = coprime_swap (d / g) (e / g) (coprime_shares d e he) in
     ap (λ x. gcd x (d / g)) size ∙ coprime-mul (unsigned_abs m) (e / g) (d / g) own apart
 
@@ -58,7 +60,7 @@ share_in_term n p = subst (λ x. p ∣ x) (sym (unsigned_abs-mul n (pos p))) (dv
 -- What is common to the numerator and the denominator of a sum is common to the numerator and the
 -- greatest common divisor of the two denominators.
 pub gcd_of_sum : (m n : ℤ) (d e : ℕ) → 0 < d → 0 < e → gcd (unsigned_abs m) d ≡ 1 → gcd (unsigned_abs n) e ≡ 1
-  → gcd (unsigned_abs (m *ℤ pos (e / gcd d e) +ℤ n *ℤ pos (d / gcd d e))) ((d / gcd d e) * e) ≡ gcd (unsigned_abs (m *ℤ pos (e / gcd d e) +ℤ n *ℤ pos (d / gcd d e))) (gcd d e)
+    → gcd (unsigned_abs (m *ℤ pos (e / gcd d e) +ℤ n *ℤ pos (d / gcd d e))) ((d / gcd d e) * e) ≡ gcd (unsigned_abs (m *ℤ pos (e / gcd d e) +ℤ n *ℤ pos (d / gcd d e))) (gcd d e)
 gcd_of_sum m n d e hd he hm hn =
     let g = gcd d e in
     let x = m *ℤ pos (e / g) in
@@ -67,7 +69,7 @@ gcd_of_sum m n d e hd he hm hn =
     let first : gcd top (d / g) ≡ 1 = coprime_sum x y (d / g) (share_in_term n (d / g)) (coprime_term m d e hd he hm) in
     let flip : gcd e d ≡ g = gcd_comm e d in
     let term : gcd (unsigned_abs y) (e / g) ≡ 1 =
-        subst (λ k. gcd (unsigned_abs (n *ℤ pos (d / k))) (e / k) ≡ 1) flip (coprime_term n e d he hd hn) in
+    subst (λ k. gcd (unsigned_abs (n *ℤ pos (d / k))) (e / k) ≡ 1) flip (coprime_term n e d he hd hn) in
     let turned : gcd (unsigned_abs (y +ℤ x)) (e / g) ≡ 1 = coprime_sum y x (e / g) (share_in_term m (e / g)) term in
     let second : gcd top (e / g) ≡ 1 = subst (λ z. gcd (unsigned_abs z) (e / g) ≡ 1) (+ℤ_comm y x) turned in
     let whole : (e / g) * g ≡ e = div-mul_cancel g (gcd_dvd_right d e) in

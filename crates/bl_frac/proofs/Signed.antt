@@ -48,9 +48,10 @@ word_product x y p q m n hx hy hp hq hm hn =
     let ny : n ≡ y = hn ∙ ap (λ z. to_z w64 (of_z w64 z)) qy ∙ to_z-of_z w64 y fy in
     let size = narrow-product x y (word_size x fx) (word_size y fy) in
     let left : to_z w128 (of_z w128 m) ≡ x = ap (λ z. to_z w128 (of_z w128 z)) mx ∙ ex in
-    let right : to_z w128 (of_z w128 n) ≡ y = ap (λ z. to_z w128 (of_z w128 z)) ny ∙ ey in
-    (ap (λ z. to_z w128 (of_z w128 (z *ℤ to_z w128 (of_z w128 n)))) left ∙ ap (λ z. to_z w128 (of_z w128 (x *ℤ z))) right ∙ signed_back (x *ℤ y) size,
-     narrow_test (x *ℤ y) size)
+    let right : to_z w128 (of_z w128 n) ≡ y = ap (λ z. to_z w128 (of_z w128 z)) ny ∙ ey in (
+      ap (λ z. to_z w128 (of_z w128 (z *ℤ to_z w128 (of_z w128 n)))) left ∙ ap (λ z. to_z w128 (of_z w128 (x *ℤ z))) right ∙ signed_back (x *ℤ y) size,
+      narrow_test (x *ℤ y) size,
+    )
 
 -- a number of 64 bits is narrow
 pub word_narrow : (n m : ℤ) → FitsSigned w64 n → m ≡ to_z w64 (of_z w64 n) → unsigned_abs (to_z w128 (of_z w128 m)) < 2 ^ 127
@@ -78,3 +79,10 @@ landed x z y h same =
     let value : x ≡ y = h.0 ∙ same in
     let test : narrow y ≡ true = subst (λ w. narrow w ≡ true) same h.1 in
     (value, test, ap (λ w. to_z w128 (of_z w128 w)) value ∙ signed_back y (narrow_from_test y test))
+
+-- what isn't narrow is wide
+pub wide_from_test : (z : ℤ) → narrow z ≡ false → 2 ^ 127 ≤ unsigned_abs z
+wide_from_test z h = grind (arith, nat_tests)
+
+pub wide_test : (z : ℤ) → 2 ^ 127 ≤ unsigned_abs z → narrow z ≡ false
+wide_test z h = grind (arith, nat_tests)

@@ -1,5 +1,5 @@
 -- The numbers on the way to a sum or a product, as the code makes them.
-use Rattle.std.proofs.Common.{◌≡◌, ℕ, ◌*◌, ◌/◌, ◌^◌, ◌<◌, ◌≤◌, ℤ, pos, ◌+ℤ◌, ◌*ℤ◌, Bool, true, false, cond, ◌&&◌, to_z, of_z, unsigned_abs, int_div, refl, sym, ap, ◌∙◌, subst, arith}
+use Rattle.std.proofs.Common.{◌≡◌, ℕ, ◌*◌, ◌/◌, ◌^◌, ◌<◌, ◌≤◌, ℤ, pos, ◌+ℤ◌, ◌*ℤ◌, Bool, true, false, cond, ◌&&◌, to_z, of_z, unsigned_abs, int_div, refl, sym, ap, ◌∙◌, subst, ◌⊎◌, inl, inr, arith}
 use Rattle.std.specs.Prelude.{Option, Some, None, Result, Ok, Err, IsErr}
 use Rattle.std.specs.Option.{ok_or}
 use Rattle.std.specs.Int.{w128}
@@ -105,3 +105,45 @@ product_of-wide_bottom a b h = other_fails (narrow (product_top a b)) (narrow (p
 pub product_of-narrow : (a b : Fraction) → narrow (product_top a b) ≡ true → narrow (pos (product_bottom a b)) ≡ true → product_of a b ≡ Some (record { num = product_top a b; den = product_bottom a b })
 unfolding product_of
 product_of-narrow a b p q = both_hold (narrow (product_top a b)) (narrow (pos (product_bottom a b))) (record { num = product_top a b; den = product_bottom a b }) p q
+
+-- ---- what an answer tells of the tests
+
+four_held : (p q r s : Bool) (f c : Fraction) → cond (p && (q && (r && s))) (Some f) None ≡ Some c → (f ≡ c) × (p ≡ true) × (q ≡ true) × (r ≡ true) × (s ≡ true)
+four_held true true true true f c h = (cc, refl, refl, refl, refl)
+four_held false q r s f c h = cc
+four_held true false r s f c h = cc
+four_held true true false s f c h = cc
+four_held true true true false f c h = cc
+
+one_of_four : (p q r s : Bool) (f : Fraction) → cond (p && (q && (r && s))) (Some f) None ≡ None → (p ≡ false) ⊎ ((q ≡ false) ⊎ ((r ≡ false) ⊎ (s ≡ false)))
+one_of_four false q r s f h = inl refl
+one_of_four true false r s f h = inr (inl refl)
+one_of_four true true false s f h = inr (inr (inl refl))
+one_of_four true true true false f h = inr (inr (inr refl))
+one_of_four true true true true f h = cc
+
+two_held : (p q : Bool) (f c : Fraction) → cond (p && q) (Some f) None ≡ Some c → (f ≡ c) × (p ≡ true) × (q ≡ true)
+two_held true true f c h = (cc, refl, refl)
+two_held false q f c h = cc
+two_held true false f c h = cc
+
+one_of_two : (p q : Bool) (f : Fraction) → cond (p && q) (Some f) None ≡ None → (p ≡ false) ⊎ (q ≡ false)
+one_of_two false q f h = inl refl
+one_of_two true false f h = inr refl
+one_of_two true true f h = cc
+
+pub sum_of-some : (a b c : Fraction) → sum_of a b ≡ Some c → (lowest (sum_top a b) (sum_bottom a b) ≡ c) × (narrow (sum_left a b) ≡ true) × (narrow (sum_right a b) ≡ true) × (narrow (sum_top a b) ≡ true) × (narrow (pos (sum_bottom a b)) ≡ true)
+unfolding sum_of
+sum_of-some a b c h = four_held (narrow (sum_left a b)) (narrow (sum_right a b)) (narrow (sum_top a b)) (narrow (pos (sum_bottom a b))) (lowest (sum_top a b) (sum_bottom a b)) c h
+
+pub sum_of-none : (a b : Fraction) → sum_of a b ≡ None → (narrow (sum_left a b) ≡ false) ⊎ ((narrow (sum_right a b) ≡ false) ⊎ ((narrow (sum_top a b) ≡ false) ⊎ (narrow (pos (sum_bottom a b)) ≡ false)))
+unfolding sum_of
+sum_of-none a b h = one_of_four (narrow (sum_left a b)) (narrow (sum_right a b)) (narrow (sum_top a b)) (narrow (pos (sum_bottom a b))) (lowest (sum_top a b) (sum_bottom a b)) h
+
+pub product_of-some : (a b c : Fraction) → product_of a b ≡ Some c → (record { num = product_top a b; den = product_bottom a b } ≡ c) × (narrow (product_top a b) ≡ true) × (narrow (pos (product_bottom a b)) ≡ true)
+unfolding product_of
+product_of-some a b c h = two_held (narrow (product_top a b)) (narrow (pos (product_bottom a b))) (record { num = product_top a b; den = product_bottom a b }) c h
+
+pub product_of-none : (a b : Fraction) → product_of a b ≡ None → (narrow (product_top a b) ≡ false) ⊎ (narrow (pos (product_bottom a b)) ≡ false)
+unfolding product_of
+product_of-none a b h = one_of_two (narrow (product_top a b)) (narrow (pos (product_bottom a b))) (record { num = product_top a b; den = product_bottom a b }) h

@@ -2,3 +2,4 @@
 pub mod Gcd
 pub mod Fraction
 pub mod Narrowed
+pub mod Laws

@@ -8,6 +8,7 @@
 mod arithmetic;
 mod divisor;
 mod fraction;
+pub mod laws;
 mod narrow;
 mod order;
 
