@@ -1,11 +1,10 @@
 -- The results of the operations are the rational ones.
-use Rattle.std.proofs.Common.{◌≡◌, ℕ, zero, suc, ◌+◌, ◌*◌, ◌/◌, ◌^◌, ◌<◌, ◌≤◌, ◌↔◌, ◌⊎◌, inl, inr, ℤ, pos, negsuc, neg_ℤ, ◌+ℤ◌, ◌-ℤ◌, ◌*ℤ◌, true, false, unsigned_abs, int_div, refl, sym, ap, ◌∙◌, subst, arith}
-use Rattle.std.specs.Prelude.{Option, Some, None}
-use Rattle.std.proofs.Math.Nat.{mul_comm, mul_assoc, div-mul_cancel}
+use Rattle.std.proofs.Common.{◌≡◌, ℕ, zero, suc, ◌*◌, ◌/◌, ◌^◌, ◌<◌, inl, inr, ℤ, pos, negsuc, neg_ℤ, ◌+ℤ◌, ◌*ℤ◌, unsigned_abs, int_div, refl, sym, ap, ◌∙◌, subst, arith}
+use Rattle.std.proofs.Math.Nat.{mul_comm, div-mul_cancel}
 use Rattle.std.proofs.Math.IntN.{*ℤ_comm}
 use Rattle.bl_frac.specs.Gcd.{gcd}
-use Rattle.bl_frac.specs.Fraction.{Fraction, IsReduced, narrow, lowest, negated, reciprocal, with_sign_of, sum_left, sum_right, sum_top, sum_bottom, sum_of, difference_of, product_top, product_bottom, product_of, quotient_of}
-use Rattle.bl_frac.specs.Laws.{IsSum, IsDifference, IsProduct, IsQuotient, IsWide, IsWideSum, IsWideProduct, Gives, QuotientGives, FailsWhere}
+use Rattle.bl_frac.specs.Fraction.{Fraction, IsReduced, lowest, negated, reciprocal, with_sign_of, sum_left, sum_right, sum_top, sum_bottom, sum_of, difference_of, product_top, product_bottom, product_of, quotient_of}
+use Rattle.bl_frac.specs.Laws.{IsSum, IsDifference, IsProduct, IsWideSum, IsWideProduct, Gives, QuotientGives, FailsWhere}
 use Rattle.bl_frac.proofs.GcdLaws.{gcd_dvd_left, gcd_dvd_right}
 use Rattle.bl_frac.proofs.WholeLaws.{neg-neg, *ℤ_assoc, add-*ℤ, *ℤ-neg, neg-*ℤ, scaled, share-times}
 use Rattle.bl_frac.proofs.Signed.{narrow_from_test, wide_from_test, wide_test}

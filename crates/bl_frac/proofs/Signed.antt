@@ -1,9 +1,9 @@
 -- What the code's numbers of 128 bits stand for.
-use Rattle.std.proofs.Common.{◌≡◌, ℕ, ◌^◌, ◌*◌, ◌<◌, ◌≤◌, ℤ, pos, negsuc, neg_ℤ, ◌-ℤ◌, ◌*ℤ◌, true, false, to_z, of_z, unsigned_abs, FitsSigned, sym, ◌∙◌, ap, subst, lit<, arith}
+use Rattle.std.proofs.Common.{◌≡◌, ℕ, ◌^◌, ◌*◌, ◌<◌, ◌≤◌, ℤ, pos, negsuc, ◌*ℤ◌, true, false, to_z, of_z, unsigned_abs, FitsSigned, sym, ◌∙◌, ap, subst, lit<, arith}
 use Rattle.std.specs.Int.{w64, w128}
 use Rattle.std.proofs.lemmas.Bool.Decides.{nat_tests}
 use Rattle.std.proofs.lemmas.Nat.{mul-le}
-use Rattle.std.proofs.lemmas.Int.{ints, to_z-of_z, to_z_pos, fits_signed_from_abs, unsigned_abs-mul}
+use Rattle.std.proofs.lemmas.Int.{to_z-of_z, to_z_pos, fits_signed_from_abs, unsigned_abs-mul}
 use Rattle.std.specs.Prelude.{Result, Ok, Err}
 use Rattle.bl_frac.specs.declared.fraction.WideFrac.{WideFrac}
 use Rattle.bl_frac.specs.Narrowed.{IsNarrowed}

@@ -1,6 +1,6 @@
 -- What the arithmetic means over the rational numbers, as equations of whole numbers of any size.
-use Rattle.std.specs.Prelude.{◌≡◌, ◌≢◌, ℕ, ◌*◌, ◌^◌, ◌≤◌, ◌↔◌, ◌⊎◌, Option, Some, None, ℤ, pos, ◌+ℤ◌, ◌-ℤ◌, ◌*ℤ◌, unsigned_abs}
-use Rattle.bl_frac.specs.Fraction.{Fraction, IsReduced, negated, reciprocal, sum_left, sum_right, sum_top, sum_bottom, sum_of, difference_of, product_top, product_bottom, product_of, quotient_of}
+use Rattle.std.specs.Prelude.{◌≡◌, ◌≢◌, ◌*◌, ◌^◌, ◌≤◌, ◌↔◌, ◌⊎◌, Option, Some, None, ℤ, pos, ◌+ℤ◌, ◌-ℤ◌, ◌*ℤ◌, unsigned_abs}
+use Rattle.bl_frac.specs.Fraction.{Fraction, IsReduced, sum_left, sum_right, sum_top, sum_bottom, product_top, product_bottom, quotient_of}
 
 -- c is a + b: over the common denominator both sides have one numerator
 abbrev pub IsSum : Fraction → Fraction → Fraction → Type 0

@@ -5,6 +5,7 @@ ghost use Rattle.bl_frac.specs.Fraction.{IsReduced};
 
 use crate::divisor::gcd;
 use std::marker::Model;
+use thiserror::Error;
 
 /// A fraction in lowest terms: the numerator's magnitude is at most `2^127 - 1`, the denominator lies from 1 to
 /// `2^127 - 1`. Contracts see it as the record of these two parts.
@@ -27,7 +28,8 @@ impl Model for Frac {
 }
 
 /// A number on the way to a result has a magnitude above `2^127 - 1`.
-#[derive(Clone, Copy, Debug, PartialEq, Eq)]
+#[derive(Clone, Copy, Debug, PartialEq, Eq, Error)]
+#[error("a number of the arithmetic passes 2^127 - 1")]
 pub struct WideFrac;
 
 /// The whole number `n`.

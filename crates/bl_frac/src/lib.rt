@@ -11,6 +11,8 @@ mod fraction;
 pub mod laws;
 mod narrow;
 mod order;
+#[cfg(test)]
+mod tests;
 
 pub use arithmetic::{add, div, mul, sub};
 pub use fraction::{Frac, WideFrac, is_whole, parts, reduced, whole};

@@ -1,4 +1,4 @@
-use Rattle.std.proofs.Common.{rules, ◌≡◌, IsTrue, pos, ◌≤ℤ◌, unsigned_abs, ℕ, ◌<◌, ◌≤◌, to_z, of_z}
+use Rattle.std.proofs.Common.{◌≡◌, pos}
 use Rattle.bl_frac.proofs.LowestTerms.{IsReduced-reciprocal_of_negative, IsReduced-reciprocal_of_positive}
 use Rattle.bl_frac.proofs.arithmetic.reciprocal_of.Goals as goal
 

@@ -1,5 +1,4 @@
-use Rattle.std.proofs.Common.{sym, ◌∙◌, ap}
-use Rattle.bl_frac.specs.Gcd.{gcd as gcd_of}
+use Rattle.std.proofs.Common.{sym, ◌∙◌}
 use Rattle.bl_frac.proofs.GcdLaws.{gcd-mod, gcd-zero}
 use Rattle.bl_frac.proofs.divisor.gcd_of_words.Goals as goal
 

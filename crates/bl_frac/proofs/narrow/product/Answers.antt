@@ -1,6 +1,3 @@
-use Rattle.std.proofs.Common.{◌≡◌, ◌^◌, ◌<◌, ◌≤◌, ◌*ℤ◌, ◌*◌, true, to_z, of_z, unsigned_abs, FitsSigned, sym, ◌∙◌, ap, arith}
-use Rattle.std.specs.Int.{w64, w128}
-use Rattle.std.proofs.lemmas.Int.{ints, to_z-of_z, fits_signed_mul, unsigned_abs-mul}
 use Rattle.bl_frac.proofs.Signed.{word_product}
 use Rattle.bl_frac.proofs.narrow.product.Goals as goal
 

@@ -1,5 +1,4 @@
-use Rattle.std.proofs.Common.{sym, ◌∙◌, ◌*◌, ◌%◌}
-use Rattle.std.specs.Ordering.{nat_cmp}
+use Rattle.std.proofs.Common.{sym, ◌∙◌, ◌%◌}
 use Rattle.std.proofs.Math.Nat.{mul_comm}
 use Rattle.bl_frac.proofs.Ratios.{ratios_by_quotients, ratios_by_rests, ratios_at_zero}
 use Rattle.bl_frac.proofs.order.+compare_ratios.Goals as goal

@@ -1,4 +1,4 @@
-use Rattle.std.proofs.Common.{◌≡◌, pos, ◌*ℤ◌, to_z, of_z, sym, ◌∙◌, ap}
+use Rattle.std.proofs.Common.{pos, ◌*ℤ◌, to_z, of_z, ◌∙◌, ap}
 use Rattle.std.specs.Int.{w128}
 use Rattle.std.specs.Ordering.{int_cmp}
 use Rattle.bl_frac.specs.Fraction.{order_of}

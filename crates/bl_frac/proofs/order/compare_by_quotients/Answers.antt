@@ -1,4 +1,4 @@
-use Rattle.std.proofs.Common.{sym, ◌∙◌, ap, unsigned_abs}
+use Rattle.std.proofs.Common.{◌∙◌, ap, unsigned_abs}
 use Rattle.bl_frac.specs.Fraction.{order_of}
 use Rattle.bl_frac.proofs.Signed.{signed_back}
 use Rattle.bl_frac.proofs.Ratios.{order_of_naturals, order_of_negatives, order_below, order_above}
