@@ -6,7 +6,8 @@ use Rattle.bl_frac.specs.Gcd.{gcd}
 use Rattle.bl_frac.specs.Fraction.{Fraction, IsReduced, lowest, negated, reciprocal, with_sign_of, sum_left, sum_right, sum_top, sum_bottom, sum_of, difference_of, product_top, product_bottom, product_of, quotient_of}
 use Rattle.bl_frac.specs.Laws.{IsSum, IsDifference, IsProduct, IsWideSum, IsWideProduct, Gives, QuotientGives, FailsWhere}
 use Rattle.bl_frac.proofs.GcdLaws.{gcd_dvd_left, gcd_dvd_right}
-use Rattle.bl_frac.proofs.WholeLaws.{neg-neg, *ℤ_assoc, add-*ℤ, *ℤ-neg, neg-*ℤ, scaled, share-times}
+use Rattle.bl_whole.proofs.Products.{*ℤ_assoc, +ℤ-*ℤ, *ℤ-neg_ℤ, neg_ℤ-*ℤ}
+use Rattle.bl_frac.proofs.WholeLaws.{neg-neg, scaled, share-times}
 use Rattle.bl_frac.proofs.Signed.{narrow_from_test, wide_from_test, wide_test}
 use Rattle.bl_frac.proofs.LowestTerms.{IsReduced-reciprocal, IsReduced-lowest, IsReduced-product, sum_bottom_positive}
 use Rattle.bl_frac.proofs.Terms.{sum_of-some, sum_of-none, sum_of-wide_left, sum_of-wide_right, sum_of-wide_top, sum_of-wide_bottom, product_of-some, product_of-none, product_of-wide_top, product_of-wide_bottom}
@@ -25,7 +26,7 @@ sum_over_product a b =
     let g = gcd a.den b.den in
     let left : sum_left a b *ℤ pos g ≡ a.num *ℤ pos b.den = scaled a.num (b.den / g) g ∙ ap (λ n. a.num *ℤ pos n) (div-mul_cancel g (gcd_dvd_right a.den b.den)) in
     let right : sum_right a b *ℤ pos g ≡ b.num *ℤ pos a.den = scaled b.num (a.den / g) g ∙ ap (λ n. b.num *ℤ pos n) (div-mul_cancel g (gcd_dvd_left a.den b.den)) in
-    sym (add-*ℤ (sum_left a b) (sum_right a b) (pos g) ∙ ap (λ z. z +ℤ sum_right a b *ℤ pos g) left ∙ ap (λ z. a.num *ℤ pos b.den +ℤ z) right)
+    sym (+ℤ-*ℤ (sum_left a b) (sum_right a b) (pos g) ∙ ap (λ z. z +ℤ sum_right a b *ℤ pos g) left ∙ ap (λ z. a.num *ℤ pos b.den +ℤ z) right)
 
 bottom_over_product : (a b : Fraction) → a.den * b.den ≡ sum_bottom a b * gcd a.den b.den
 bottom_over_product a b =
@@ -97,7 +98,7 @@ pub difference_of-gives : Gives difference_of IsDifference
 unfolding difference_of
 difference_of-gives a b c ha hb h =
     let told = sum_of-gives a (negated b) c ha (IsReduced-negated b hb) h in
-    (told.0 ∙ ap (λ z. (a.num *ℤ pos b.den +ℤ z) *ℤ pos c.den) (neg-*ℤ b.num (pos a.den)), told.1)
+    (told.0 ∙ ap (λ z. (a.num *ℤ pos b.den +ℤ z) *ℤ pos c.den) (neg_ℤ-*ℤ b.num (pos a.den)), told.1)
 
 pub difference_of-fails : FailsWhere difference_of (λ a b. IsWideSum a (negated b))
 unfolding difference_of
@@ -151,9 +152,9 @@ by_natural m k n d e f h =
 
 by_negative : (m k : ℤ) (n d e f : ℕ) → k *ℤ pos (d * suc n) ≡ (m *ℤ neg_ℤ (pos e)) *ℤ pos f → m *ℤ pos (f * e) ≡ (k *ℤ negsuc n) *ℤ pos d
 by_negative m k n d e f h =
-    let flipped : (neg_ℤ m *ℤ pos e) *ℤ pos f ≡ (m *ℤ neg_ℤ (pos e)) *ℤ pos f = ap (λ z. z *ℤ pos f) (neg-*ℤ m (pos e) ∙ sym (*ℤ-neg m (pos e))) in
+    let flipped : (neg_ℤ m *ℤ pos e) *ℤ pos f ≡ (m *ℤ neg_ℤ (pos e)) *ℤ pos f = ap (λ z. z *ℤ pos f) (neg_ℤ-*ℤ m (pos e) ∙ sym (*ℤ-neg_ℤ m (pos e))) in
     let positive : neg_ℤ m *ℤ pos (f * e) ≡ (k *ℤ pos (suc n)) *ℤ pos d = by_natural (neg_ℤ m) k (suc n) d e f (h ∙ sym flipped) in
-    sym (neg-neg (m *ℤ pos (f * e))) ∙ ap neg_ℤ (sym (neg-*ℤ m (pos (f * e)))) ∙ ap neg_ℤ positive ∙ sym (neg-*ℤ (k *ℤ pos (suc n)) (pos d)) ∙ ap (λ z. z *ℤ pos d) (sym (*ℤ-neg k (pos (suc n))))
+    sym (neg-neg (m *ℤ pos (f * e))) ∙ ap neg_ℤ (sym (neg_ℤ-*ℤ m (pos (f * e)))) ∙ ap neg_ℤ positive ∙ sym (neg_ℤ-*ℤ (k *ℤ pos (suc n)) (pos d)) ∙ ap (λ z. z *ℤ pos d) (sym (*ℤ-neg_ℤ k (pos (suc n))))
 
 quotient_from_product : (a b c : Fraction) (z : ℤ) → b.num ≡ z → c.num *ℤ pos (a.den * unsigned_abs z) ≡ (a.num *ℤ with_sign_of z b.den) *ℤ pos c.den → a.num *ℤ pos (c.den * b.den) ≡ (c.num *ℤ z) *ℤ pos a.den
 quotient_from_product a b c (pos n) e h = by_natural a.num c.num n a.den b.den c.den h
