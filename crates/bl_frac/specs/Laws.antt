@@ -1,0 +1,48 @@
+-- What the arithmetic means over the rational numbers, as equations of whole numbers of any size.
+use Rattle.std.specs.Prelude.{◌≡◌, ◌≢◌, ◌*◌, ◌^◌, ◌≤◌, ◌↔◌, ◌⊎◌, Option, Some, None, ℤ, pos, ◌+ℤ◌, ◌-ℤ◌, ◌*ℤ◌, unsigned_abs}
+use Rattle.bl_frac.specs.Fraction.{Fraction, IsReduced, sum_left, sum_right, sum_top, sum_bottom, product_top, product_bottom, quotient_of}
+
+-- c is a + b: over the common denominator both sides have one numerator
+abbrev pub IsSum : Fraction → Fraction → Fraction → Type 0
+IsSum a b c =
+    c.num *ℤ pos (a.den * b.den) ≡ (a.num *ℤ pos b.den +ℤ b.num *ℤ pos a.den) *ℤ pos c.den
+
+-- c is a - b
+abbrev pub IsDifference : Fraction → Fraction → Fraction → Type 0
+IsDifference a b c =
+    c.num *ℤ pos (a.den * b.den) ≡ (a.num *ℤ pos b.den -ℤ b.num *ℤ pos a.den) *ℤ pos c.den
+
+-- c is a · b
+abbrev pub IsProduct : Fraction → Fraction → Fraction → Type 0
+IsProduct a b c = c.num *ℤ pos (a.den * b.den) ≡ (a.num *ℤ b.num) *ℤ pos c.den
+
+-- c is a / b: c · b is a
+abbrev pub IsQuotient : Fraction → Fraction → Fraction → Type 0
+IsQuotient a b c = IsProduct c b a
+
+-- the magnitude is above 2^127 - 1
+abbrev pub IsWide : ℤ → Type 0
+IsWide z = 2 ^ 127 ≤ unsigned_abs z
+
+-- a number on the way to the sum is wide
+abbrev pub IsWideSum : Fraction → Fraction → Type 0
+IsWideSum a b =
+    IsWide (sum_left a b) ⊎ (IsWide (sum_right a b) ⊎ (IsWide (sum_top a b) ⊎ IsWide (pos (sum_bottom a b))))
+
+-- a number on the way to the product is wide
+abbrev pub IsWideProduct : Fraction → Fraction → Type 0
+IsWideProduct a b = IsWide (product_top a b) ⊎ IsWide (pos (product_bottom a b))
+
+-- the operation, where it gives a fraction, gives the one that R describes, in lowest terms
+abbrev pub Gives : (Fraction → Fraction → Option Fraction) → (Fraction → Fraction → Fraction → Type 0) → Type 0
+Gives operation R =
+    (a b c : Fraction) → IsReduced a → IsReduced b → operation a b ≡ Some c → R a b c × IsReduced c
+
+-- the operation gives no fraction exactly where a number on the way is wide
+abbrev pub FailsWhere : (Fraction → Fraction → Option Fraction) → (Fraction → Fraction → Type 0) → Type 0
+FailsWhere operation P = (a b : Fraction) → (operation a b ≡ None) ↔ P a b
+
+-- the same of the quotient, by a fraction other than 0
+abbrev pub QuotientGives : Type 0
+QuotientGives =
+    (a b c : Fraction) → IsReduced a → IsReduced b → b.num ≢ pos 0 → quotient_of a b ≡ Some c → IsQuotient a b c × IsReduced c
