@@ -1,11 +1,10 @@
 -- The best point of a walk.
-use Rattle.std.proofs.Common.{◌≡◌, ℕ, ◌+◌, ◌<◌, ◌≤◌, List, [], ◌∷◌, ◌++◌, length, set, get_or, ◌∙◌, sym, refl, ap, subst, inl, inr, ⊎_elim, arith}
-use Rattle.std.specs.Prelude.{All, ℤ, pos, ◌≤ℤ◌, ◌<ℤ◌, ◌+ℤ◌, ◌⊎◌, Contains, Option, None, Some, IfSome, IsSomeAnd}
+use Rattle.std.proofs.Common.{◌≡◌, ℕ, ◌<◌, List, [], ◌∷◌, ◌++◌, length, set, get_or, sym, refl, subst, inl, inr, ⊎_elim, arith}
+use Rattle.std.specs.Prelude.{All, ℤ, pos, ◌≤ℤ◌, ◌<ℤ◌, ◌+ℤ◌, ◌⊎◌, Option, None, Some, IfSome, IsSomeAnd}
 use Rattle.std.proofs.lemmas.Int.{ints, by_lt_z}
 use Rattle.std.proofs.lemmas.List.Elements.{All-cons, All-append, Contains-get_or}
 use Rattle.bl_whole.specs.Sums.{entry}
-use Rattle.bl_terms.specs.Programs.{Program, In, Lower, Rows, columns, cost_at, follower_at}
-use Rattle.bl_terms.specs.Feasible.{BilevelFeasible}
+use Rattle.bl_terms.specs.Programs.{Program, In, columns, cost_at}
 use Rattle.bl_model.specs.View.{IsModel}
 use Rattle.bl_plain.specs.Walk.{Varies, Best, Improves, Among, AnswersAt}
 use Rattle.bl_plain.proofs.WalkLemmas.{Varies-none, Varies-narrow, Varies-widen, Contains-first, below_or_here}
@@ -33,7 +32,7 @@ pub Improves-same : (p : Program) (S T : List ℤ → Type 0) (a b : Best) → (
 Improves-same p S T a b to from h = record {
   source = ⊎_elim (λ e. inl e) (λ w. inr (to b.point w.0, w.1)) h.source;
   kept = h.kept;
-  bound = λ z t. h.bound z (from z t)
+  bound = λ z t. h.bound z (from z t);
 }
 
 -- ---- a walk over one column's values
@@ -52,27 +51,27 @@ pub Seeks-start : (p : Program) (c : ℕ) (cs : List ℕ) (z : List ℤ) (T : Li
 Seeks-start p c cs z T a = record {
   source = inl refl;
   kept = kept_same a.value;
-  bound = λ z' b. let low = b.0.least c (Contains-first c cs) in let less = b.2 in absurd (omega (arith, ints))
+  bound = λ z' b. let low = b.0.least c (Contains-first c cs) in let less = b.2 in absurd (omega (arith, ints));
 }
 
 pub Seeks-end : (p : Program) (c : ℕ) (cs : List ℕ) (z : List ℤ) (T : List ℤ → Type 0) (x : ℤ) (a b : Best) → entry p.hi c <ℤ x → Seeks p c cs z T x a b → Improves p (Among p (c ∷ cs) z T) a b
 Seeks-end p c cs z T x a b past h = record {
   source = h.source;
   kept = h.kept;
-  bound = λ z' w. let high = w.0.most c (Contains-first c cs) in h.bound z' (w.0, w.1, omega (arith, ints))
+  bound = λ z' w. let high = w.0.most c (Contains-first c cs) in h.bound z' (w.0, w.1, omega (arith, ints));
 }
 
 pub Seeks-step : (p : Program) (c : ℕ) (cs : List ℕ) (z₀ z : List ℤ) (T : List ℤ → Type 0) (x : ℤ) (a b d : Best) → c < length z → entry p.lo c ≤ℤ x → x ≤ℤ entry p.hi c → Varies p (c ∷ cs) z₀ z → Seeks p c cs z₀ T x a b → Improves p (Among p cs (set z c x) T) b d → Seeks p c cs z₀ T (x +ℤ pos 1) a d
 Seeks-step p c cs z₀ z T x a b d below low high v old new = record {
   source = ⊎_elim
-    (λ same. let P : Best → Type 0 = λ q. (q ≡ a) ⊎ (Among p (c ∷ cs) z₀ T q.point × (q.value ≡ Some (cost_at p q.point))) in subst P (sym same) old.source)
-    (λ w. inr ((Varies-widen p c cs z₀ z d.point x below low high v w.0.0, w.0.1), w.1))
-    new.source;
+      (λ same. let P : Best → Type 0 = λ q. (q ≡ a) ⊎ (Among p (c ∷ cs) z₀ T q.point × (q.value ≡ Some (cost_at p q.point))) in subst P (sym same) old.source)
+      (λ w. inr ((Varies-widen p c cs z₀ z d.point x below low high v w.0.0, w.0.1), w.1))
+      new.source;
   kept = kept_trans a.value b.value d.value old.kept new.kept;
   bound = λ z' w. ⊎_elim
-    (λ less. some_le b.value d.value (cost_at p z') (old.bound z' (w.0, w.1, less)) new.kept)
-    (λ here. new.bound z' (Varies-narrow p c cs z₀ z z' x below v w.0 here, w.1))
-    (below_or_here (entry z' c) x w.2)
+      (λ less. some_le b.value d.value (cost_at p z') (old.bound z' (w.0, w.1, less)) new.kept)
+      (λ here. new.bound z' (Varies-narrow p c cs z₀ z z' x below v w.0 here, w.1))
+      (below_or_here (entry z' c) x w.2);
 }
 
 -- ---- one point
@@ -86,7 +85,7 @@ pub offer-dear : (p : Program) (z : List ℤ) (least : ℤ) (a : Best) → ¬ If
 offer-dear p z least a dear = record {
   source = inl refl;
   kept = kept_same a.value;
-  bound = λ z' w. rw (Varies-none p z z' w.0) (not_below a.value (cost_at p z) dear)
+  bound = λ z' w. rw (Varies-none p z z' w.0) (not_below a.value (cost_at p z) dear);
 }
   where
     not_below : (v : Option ℤ) (y : ℤ) → ¬ IfSome v (λ before. y <ℤ before) → IsSomeAnd v (λ now. now ≤ℤ y)
@@ -98,7 +97,7 @@ pub offer-taken : (p : Program) (z : List ℤ) (least : ℤ) (a : Best) → In p
 offer-taken p z least a is v answers less = record {
   source = inr ((v, answers), refl);
   kept = lower a.value less;
-  bound = λ z' w. rw (Varies-none p z z' w.0) (omega (arith, ints))
+  bound = λ z' w. rw (Varies-none p z z' w.0) (omega (arith, ints));
 }
   where
     lower : (v : Option ℤ) → IfSome v (λ before. cost_at p z <ℤ before) → IfSome v (λ before. cost_at p z ≤ℤ before)

@@ -1,11 +1,10 @@
 -- The bilevel feasible points with one list of leader values.
-use Rattle.std.proofs.Common.{◌≡◌, ℕ, ◌<◌, ◌≤◌, List, length, ◌∙◌, sym, ⊎_elim, arith}
-use Rattle.std.specs.Prelude.{ℤ, pos, ◌≤ℤ◌, Contains, None, Some}
+use Rattle.std.proofs.Common.{List, ◌∙◌, sym, ⊎_elim, arith}
+use Rattle.std.specs.Prelude.{ℤ, pos, None, Some}
 use Rattle.std.proofs.lemmas.Bool.{cases_lt}
 use Rattle.std.proofs.lemmas.Int.{ints}
 use Rattle.std.proofs.lemmas.List.{get_or_past}
-use Rattle.bl_whole.specs.Sums.{entry}
-use Rattle.bl_terms.specs.Programs.{Program, In, Lower, Rows, SameLead, columns, cost_at, follower_at}
+use Rattle.bl_terms.specs.Programs.{Program, In, Lower, Rows, SameLead, columns}
 use Rattle.bl_terms.specs.Feasible.{BilevelFeasible}
 use Rattle.bl_model.specs.View.{IsModel}
 use Rattle.bl_plain.specs.Walk.{Varies, Best, Improves, Among, AnswersAt, IsLeastCost}
@@ -21,11 +20,11 @@ varies_from_lead : (p : Program) (z z' w : List ℤ) → IsModel p → In p z �
 varies_from_lead p z z' w m is v in' lead = record {
   count = in'.columns ∙ sym is.columns;
   others = λ k out. ⊎_elim
-    (λ below. sym (lead.agree k (record { column = below; leads = out })) ∙ v.others k out)
-    (λ above. get_or_past w k (pos 0) (omega (arith, above, in'.columns)) ∙ sym (get_or_past z k (pos 0) (omega (arith, above, is.columns))))
-    (cases_lt k (columns p));
+      (λ below. sym (lead.agree k (record { column = below; leads = out })) ∙ v.others k out)
+      (λ above. get_or_past w k (pos 0) (omega (arith, above, in'.columns)) ∙ sym (get_or_past z k (pos 0) (omega (arith, above, is.columns))))
+      (cases_lt k (columns p));
   least = λ k has. in'.least k (m.sound.follower_below k has);
-  most = λ k has. in'.most k (m.sound.follower_below k has)
+  most = λ k has. in'.most k (m.sound.follower_below k has);
 }
 
 rows_lower : (p : Program) (z : List ℤ) → Rows p z → Lower p z
@@ -36,7 +35,7 @@ feasible_from_answer : (p : Program) (z z' : List ℤ) (least : ℤ) → IsModel
 feasible_from_answer p z z' least m is h v a = record {
   inside = In-varies p p.follower z z' is v;
   rows = a.rows;
-  least = λ w in' lower lead. rw a.cost (h.bound w (varies_from_lead p z z' w m is v in' lead) lower)
+  least = λ w in' lower lead. rw a.cost (h.bound w (varies_from_lead p z z' w m is v in' lead) lower);
 }
 
 -- and the other way round

@@ -1,11 +1,10 @@
 -- Points that vary others on some columns.
-use Rattle.std.proofs.Common.{◌≡◌, ℕ, zero, suc, ◌+◌, ◌<◌, ◌≤◌, Bool, true, false, cond, List, [], ◌∷◌, length, get_or, set, ◌∙◌, sym, refl, ap, subst, inl, inr, ⊎_elim, arith}
+use Rattle.std.proofs.Common.{◌≡◌, ℕ, zero, suc, ◌<◌, Bool, true, false, cond, List, [], ◌∷◌, length, get_or, set, ◌∙◌, sym, refl, ap, subst, inl, inr, ⊎_elim, arith}
 use Rattle.std.specs.Prelude.{ℤ, pos, ◌≤ℤ◌, ◌<ℤ◌, ◌+ℤ◌, ◌⊎◌, ◌≢◌, Contains, All, int_lt, Option, None, Some, IfSome, IsSomeAnd}
 use Rattle.std.proofs.lemmas.Bool.{cases_lt}
 use Rattle.std.proofs.lemmas.Int.{ints, clamps, by_lt_z}
 use Rattle.std.proofs.lemmas.List.{ext_get_or, length-set, get_or-set_same, get_or-set_other}
 use Rattle.bl_whole.specs.Sums.{entry}
-use Rattle.bl_terms.specs.Points.{InArea}
 use Rattle.bl_terms.specs.Programs.{Program, In, Lower, columns, follower_at}
 use Rattle.bl_model.specs.Build.{is_among}
 use Rattle.bl_model.proofs.SoundLemmas.{Decides-is_among}
@@ -39,7 +38,7 @@ Varies-refl p cs z below is = record {
   count = refl;
   others = λ k not_there. refl;
   least = λ k has. is.least k (column k has);
-  most = λ k has. is.most k (column k has)
+  most = λ k has. is.most k (column k has);
 }
   where
     column : (k : ℕ) → Contains cs k → k < columns p
@@ -54,7 +53,7 @@ pub In-varies : (p : Program) (cs : List ℕ) (z z' : List ℤ) → In p z → V
 In-varies p cs z z' is v = record {
   columns = v.count ∙ is.columns;
   least = λ k below. ⊎_elim (λ has. v.least k has) (λ not_there. rw (v.others k not_there) (is.least k below)) (among_or_not cs k);
-  most = λ k below. ⊎_elim (λ has. v.most k has) (λ not_there. rw (v.others k not_there) (is.most k below)) (among_or_not cs k)
+  most = λ k below. ⊎_elim (λ has. v.most k has) (λ not_there. rw (v.others k not_there) (is.most k below)) (among_or_not cs k);
 }
 
 same_or_not : (k c : ℕ) → (k ≡ c) ⊎ (k ≢ c)
@@ -71,7 +70,7 @@ pub In-set : (p : Program) (z : List ℤ) (c : ℕ) (x : ℤ) → In p z → c <
 In-set p z c x is below low high = record {
   columns = length-set z c x ∙ is.columns;
   least = λ k at. ⊎_elim (λ e. rw (e, entry-set_same z c x (omega (arith, is.columns, below))) low) (λ apart. rw (entry-set_other z c k x apart) (is.least k at)) (same_or_not k c);
-  most = λ k at. ⊎_elim (λ e. rw (e, entry-set_same z c x (omega (arith, is.columns, below))) high) (λ apart. rw (entry-set_other z c k x apart) (is.most k at)) (same_or_not k c)
+  most = λ k at. ⊎_elim (λ e. rw (e, entry-set_same z c x (omega (arith, is.columns, below))) high) (λ apart. rw (entry-set_other z c k x apart) (is.most k at)) (same_or_not k c);
 }
 
 pub below_or_here : (y x : ℤ) → y <ℤ (x +ℤ pos 1) → (y <ℤ x) ⊎ (y ≡ x)
@@ -84,14 +83,14 @@ pub Varies-narrow : (p : Program) (c : ℕ) (cs : List ℕ) (z₀ z z' : List �
 Varies-narrow p c cs z₀ z z' x below v v' is = record {
   count = v'.count ∙ sym v.count ∙ sym (length-set z c x);
   others = λ k not_there.
-    ⊎_elim
-    (λ e. ap (entry z') e ∙ is ∙ sym (entry-set_same z c x below) ∙ ap (entry (set z c x)) (sym e))
-    (λ apart.
+      ⊎_elim
+      (λ e. ap (entry z') e ∙ is ∙ sym (entry-set_same z c x below) ∙ ap (entry (set z c x)) (sym e))
+      (λ apart.
       let out : ¬ Contains (c ∷ cs) k = λ has. ⊎_elim (λ e. apart (sym e)) not_there (Contains-cases c cs k has) in
       v'.others k out ∙ sym (v.others k out) ∙ sym (entry-set_other z c k x apart))
-    (same_or_not k c);
+      (same_or_not k c);
   least = λ k has. v'.least k (Contains-later c cs k has);
-  most = λ k has. v'.most k (Contains-later c cs k has)
+  most = λ k has. v'.most k (Contains-later c cs k has);
 }
 
 -- and the other way round
@@ -99,11 +98,11 @@ pub Varies-widen : (p : Program) (c : ℕ) (cs : List ℕ) (z₀ z z' : List ℤ
 Varies-widen p c cs z₀ z z' x below low high v v' = record {
   count = v'.count ∙ length-set z c x ∙ v.count;
   others = λ k out.
-    let apart : k ≢ c = λ e. out (rw e (Contains-first c cs)) in
-    let not_there : ¬ Contains cs k = λ has. out (Contains-later c cs k has) in
-    v'.others k not_there ∙ entry-set_other z c k x apart ∙ v.others k out;
+      let apart : k ≢ c = λ e. out (rw e (Contains-first c cs)) in
+      let not_there : ¬ Contains cs k = λ has. out (Contains-later c cs k has) in
+      v'.others k not_there ∙ entry-set_other z c k x apart ∙ v.others k out;
   least = λ k has. ⊎_elim (λ e. ⊎_elim (λ later. v'.least k later) (λ not_there. rw (v'.others k not_there, ← e, entry-set_same z c x below) low) (among_or_not cs k)) (λ later. v'.least k later) (Contains-cases c cs k has);
-  most = λ k has. ⊎_elim (λ e. ⊎_elim (λ later. v'.most k later) (λ not_there. rw (v'.others k not_there, ← e, entry-set_same z c x below) high) (among_or_not cs k)) (λ later. v'.most k later) (Contains-cases c cs k has)
+  most = λ k has. ⊎_elim (λ e. ⊎_elim (λ later. v'.most k later) (λ not_there. rw (v'.others k not_there, ← e, entry-set_same z c x below) high) (among_or_not cs k)) (λ later. v'.most k later) (Contains-cases c cs k has);
 }
 
 -- ---- the follower's least cost
@@ -138,10 +137,10 @@ pub IsLeastBelow-step : (p : Program) (c : ℕ) (cs : List ℕ) (z₀ z : List �
 IsLeastBelow-step p c cs z₀ z x r s below low high v old new = record {
   reached = lesser_reached r s (λ least. (z' : List ℤ) × Varies p (c ∷ cs) z₀ z' × Lower p z' × (follower_at p z' ≡ least)) old.reached (widened s new.reached);
   bound = λ z' v' lower less.
-    ⊎_elim
-    (λ before. lesser_left r s (follower_at p z') (old.bound z' v' lower before))
-    (λ here. lesser_right r s (follower_at p z') (new.bound z' (Varies-narrow p c cs z₀ z z' x below v v' here) lower))
-    (below_or_here (entry z' c) x less)
+      ⊎_elim
+      (λ before. lesser_left r s (follower_at p z') (old.bound z' v' lower before))
+      (λ here. lesser_right r s (follower_at p z') (new.bound z' (Varies-narrow p c cs z₀ z z' x below v v' here) lower))
+      (below_or_here (entry z' c) x less);
 }
   where
     widened : (s : Option ℤ) → IfSome s (λ least. (z' : List ℤ) × Varies p cs (set z c x) z' × Lower p z' × (follower_at p z' ≡ least)) → IfSome s (λ least. (z' : List ℤ) × Varies p (c ∷ cs) z₀ z' × Lower p z' × (follower_at p z' ≡ least))
@@ -152,14 +151,14 @@ IsLeastBelow-step p c cs z₀ z x r s below low high v old new = record {
 pub IsLeastBelow-none : (p : Program) (c : ℕ) (cs : List ℕ) (z : List ℤ) → IsLeastBelow p (c ∷ cs) z c (entry p.lo c) None
 IsLeastBelow-none p c cs z = record {
   reached = tt;
-  bound = λ z' v lower less. let low = v.least c (Contains-first c cs) in absurd (omega (arith, ints))
+  bound = λ z' v lower less. let low = v.least c (Contains-first c cs) in absurd (omega (arith, ints));
 }
 
 -- after the last
 pub IsLeastBelow-all : (p : Program) (c : ℕ) (cs : List ℕ) (z : List ℤ) (x : ℤ) (r : Option ℤ) → entry p.hi c <ℤ x → IsLeastBelow p (c ∷ cs) z c x r → IsLeastCost p (c ∷ cs) z r
 IsLeastBelow-all p c cs z x r past h = record {
   reached = h.reached;
-  bound = λ z' v lower. let high = v.most c (Contains-first c cs) in h.bound z' v lower (omega (arith, ints))
+  bound = λ z' v lower. let high = v.most c (Contains-first c cs) in h.bound z' v lower (omega (arith, ints));
 }
 
 -- a column's value, and what the walk of the other columns made of the point
@@ -172,7 +171,7 @@ Varies-step p c cs z₀ z z' x is below low high v v' =
 pub IsLeastCost-none : (p : Program) (z : List ℤ) → ¬ Lower p z → IsLeastCost p [] z None
 IsLeastCost-none p z fails = record {
   reached = tt;
-  bound = λ z' v lower. absurd (fails (let L : List ℤ → Type 0 = Lower p in subst L (Varies-none p z z' v) lower))
+  bound = λ z' v lower. absurd (fails (let L : List ℤ → Type 0 = Lower p in subst L (Varies-none p z z' v) lower));
 }
 
 pub Varies-nothing : (p : Program) (z : List ℤ) → Varies p [] z z
@@ -180,7 +179,7 @@ Varies-nothing p z = record {
   count = refl;
   others = λ k not_there. refl;
   least = λ k has. absurd (omega (arith, has.1));
-  most = λ k has. absurd (omega (arith, has.1))
+  most = λ k has. absurd (omega (arith, has.1));
 }
 
 -- two points that vary one vary each other
@@ -189,7 +188,7 @@ Varies-trans p cs z z₁ z' v w = record {
   count = w.count ∙ v.count;
   others = λ k out. w.others k out ∙ v.others k out;
   least = w.least;
-  most = w.most
+  most = w.most;
 }
 
 pub Varies-back : (p : Program) (cs : List ℕ) (z z₁ z' : List ℤ) → Varies p cs z z₁ → Varies p cs z z' → Varies p cs z₁ z'
@@ -197,5 +196,5 @@ Varies-back p cs z z₁ z' v w = record {
   count = w.count ∙ sym v.count;
   others = λ k out. w.others k out ∙ sym (v.others k out);
   least = w.least;
-  most = w.most
+  most = w.most;
 }

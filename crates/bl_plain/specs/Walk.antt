@@ -1,10 +1,10 @@
 -- What a walk over the points of a box finds.
-use Rattle.std.specs.Prelude.{◌≡◌, ◌⊎◌, ◌++◌, ℕ, List, length, ℤ, ◌≤ℤ◌, Option, None, Some, Contains, IfSome, IsSomeAnd, MatchOption, refl}
+use Rattle.std.specs.Prelude.{◌≡◌, ◌⊎◌, ℕ, List, length, ℤ, ◌≤ℤ◌, Option, None, Some, Contains, IfSome, IsSomeAnd, refl}
 use Rattle.std.specs.Int.{int_min}
 use Rattle.std.specs.Option.{option_map}
 use Rattle.std.specs.Coded.{Coded, code_by, coded×, coded_list, coded_ℤ, coded_option}
 use Rattle.bl_whole.specs.Sums.{entry}
-use Rattle.bl_terms.specs.Programs.{Program, In, Rows, Lower, cost_at, follower_at}
+use Rattle.bl_terms.specs.Programs.{Program, Rows, Lower, cost_at, follower_at}
 use Rattle.bl_terms.specs.Feasible.{Optimal, Infeasible}
 
 -- z' differs from z on these columns alone, and there it lies in the ranges

@@ -7,4 +7,3 @@ mod leader;
 
 pub use best::Optimum;
 pub use leader::plain_best;
-

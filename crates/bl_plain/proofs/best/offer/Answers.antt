@@ -1,10 +1,9 @@
-use Rattle.std.proofs.Common.{◌≡◌, ◌∙◌, rules, ap, sym, refl, false}
-use Rattle.std.specs.Prelude.{ℤ, FitsSigned, Some, Option}
+use Rattle.std.proofs.Common.{◌≡◌, ◌∙◌, rules, ap, sym}
+use Rattle.std.specs.Prelude.{FitsSigned}
 use Rattle.std.specs.Int.{w64}
 use mir.Val.{to_z, of_z}
 use Rattle.std.proofs.lemmas.Int.{to_z-of_z}
-use Rattle.bl_terms.specs.Programs.{cost_at}
-use Rattle.bl_plain.specs.Walk.{Best, Improves, Among, AnswersAt}
+use Rattle.bl_plain.specs.Walk.{Best, AnswersAt}
 use Rattle.bl_plain.proofs.BestLemmas.{offer-none, offer-dear, offer-taken}
 use Rattle.bl_plain.proofs.WalkLemmas.{Varies-nothing}
 use Rattle.bl_plain.proofs.best.offer.Goals as goal
@@ -32,7 +31,7 @@ pub returns-else-follower_of-least-clause-best : goal.returns-else-follower_of-l
 returns-else-follower_of-least-clause-best c =
     offer-none c.args.model.now c.args.z.now c.args.least c.args.best.now
     (λ answers.
-      elim c.else-follower_of-least.branch [
-        else-follower_of-least-via-then-follower_of-least+else-meets_rows w ↦ let yes = w.meets_rows.ensures.1 answers.rows in let no = w.if-meets_rows.false in cc
+    elim c.else-follower_of-least.branch [
+      | else-follower_of-least-via-then-follower_of-least+else-meets_rows w ↦ let yes = w.meets_rows.ensures.1 answers.rows in let no = w.if-meets_rows.false in cc
       | else-follower_of-least-via-else-follower_of-least w ↦ w.if-follower_of-least.false (ap (of_z w64) (c.follower_of.ensures ∙ answers.cost))
-      ])
+    ])

@@ -1,12 +1,12 @@
-use Rattle.std.proofs.Common.{◌≡◌, ◌∙◌, arith, length, ◌<◌, rules, ap, sym, List, []}
-use Rattle.std.specs.Prelude.{◌≤ℤ◌, ◌<ℤ◌, ◌+ℤ◌, pos, ℤ, FitsSigned}
+use Rattle.std.proofs.Common.{◌≡◌, arith, rules, ap, List, []}
+use Rattle.std.specs.Prelude.{◌≤ℤ◌, ◌+ℤ◌, pos, ℤ}
 use Rattle.std.specs.Int.{w64}
 use mir.Val.{to_z, of_z}
 use Rattle.std.proofs.lemmas.Int.{ints}
 use Rattle.std.proofs.lemmas.List.{nil_from_length}
 use Rattle.bl_whole.specs.Sums.{entry}
 use Rattle.bl_whole.proofs.WithinLemmas.{within_high, within_low}
-use Rattle.bl_plain.proofs.WalkLemmas.{Varies-none, In-set, IsLeastBelow-step, IsLeastBelow-all, Varies-step, IsLeastCost-none}
+use Rattle.bl_plain.proofs.WalkLemmas.{In-set, IsLeastBelow-step, IsLeastBelow-all, Varies-step, IsLeastCost-none}
 use Rattle.bl_plain.proofs.follower.+least.Goals as goal
 
 pub least_cost-returns-in-empty-2-clause-least : goal.least_cost-returns-in-empty-2-clause-least
@@ -41,7 +41,7 @@ least_over-loop-value-preserved t c =
       inside = after.0;
       moved = after.1;
       from = omega (arith, ints);
-      least = rw (next, c.lesser-least.ensures) (IsLeastBelow-step p column rest c.args.z.now c.loop-value.z x c.loop-value.least c.least_cost.result (omega (arith, now.inside.columns, c.requires.column)) now.from high now.moved now.least c.least_cost.ensures.least)
+      least = rw (next, c.lesser-least.ensures) (IsLeastBelow-step p column rest c.args.z.now c.loop-value.z x c.loop-value.least c.least_cost.result (omega (arith, now.inside.columns, c.requires.column)) now.from high now.moved now.least c.least_cost.ensures.least);
     }
 
 pub least_over-returns-clause-least : goal.least_over-returns-clause-least

@@ -1,5 +1,5 @@
-use Rattle.std.proofs.Common.{◌≡◌, ◌∙◌, ◌++◌, ◌∷◌, arith, length, rules, ap, List}
-use Rattle.std.specs.Prelude.{◌≤ℤ◌, ◌<ℤ◌, ◌+ℤ◌, pos, ℤ, FitsSigned, slice_index_or}
+use Rattle.std.proofs.Common.{◌≡◌, ◌∙◌, ◌++◌, ◌∷◌, arith, rules, ap, List}
+use Rattle.std.specs.Prelude.{◌≤ℤ◌, ◌+ℤ◌, pos, ℤ, FitsSigned, slice_index_or}
 use Rattle.std.specs.Int.{w64}
 use mir.Val.{to_z, of_z}
 use Rattle.std.proofs.lemmas.Int.{ints, to_z-of_z}
@@ -39,7 +39,7 @@ try_choices-loop-value-preserved t c =
       moved = after.1;
       from = omega (arith, ints);
       room = c.try_leaders.ensures.room;
-      best = rw next (Seeks-step p column rest c.args.z.now c.loop-value.z (BilevelFeasible p) x c.args.best.now c.loop-value.best c.try_leaders.new.best (omega (arith, now.inside.columns, c.requires.column)) now.from high now.moved now.best c.try_leaders.ensures.best)
+      best = rw next (Seeks-step p column rest c.args.z.now c.loop-value.z (BilevelFeasible p) x c.args.best.now c.loop-value.best c.try_leaders.new.best (omega (arith, now.inside.columns, c.requires.column)) now.from high now.moved now.best c.try_leaders.ensures.best);
     }
 
 pub try_choices-returns-clause-best : goal.try_choices-returns-clause-best
@@ -61,5 +61,5 @@ try_choices-loop-value-init t c =
       moved = Varies-refl p (column ∷ cs) c.args.z.now (choices-below p column c.args.rest.now c.lo.ensures.model c.requires.column c.requires.rest) c.requires.point;
       from = omega (arith, ints, start);
       room = c.requires.room;
-      best = rw start (Seeks-start p column cs c.args.z.now (BilevelFeasible p) c.args.best.now)
+      best = rw start (Seeks-start p column cs c.args.z.now (BilevelFeasible p) c.args.best.now);
     }

@@ -1,5 +1,5 @@
-use Rattle.std.proofs.Common.{◌≡◌, arith, length, rules, ap, List}
-use Rattle.std.specs.Prelude.{◌≤ℤ◌, ◌<ℤ◌, ◌+ℤ◌, pos, ℤ}
+use Rattle.std.proofs.Common.{◌≡◌, arith, rules, ap, List}
+use Rattle.std.specs.Prelude.{◌≤ℤ◌, ◌+ℤ◌, pos, ℤ}
 use Rattle.std.specs.Int.{w64}
 use mir.Val.{to_z, of_z}
 use Rattle.std.proofs.lemmas.Int.{ints, to_z-of_z}
@@ -39,7 +39,7 @@ try_values-loop-value-preserved t c =
       moved = after.1;
       from = omega (arith, ints);
       room = c.try_responses.ensures.room;
-      best = rw next (Seeks-step p column rest c.args.z.now c.loop-value.z (AnswersAt p (to_z w64 (of_z w64 c.args.least))) x c.args.best.now c.loop-value.best c.try_responses.new.best (omega (arith, now.inside.columns, c.requires.column)) now.from high now.moved now.best c.try_responses.ensures.best)
+      best = rw next (Seeks-step p column rest c.args.z.now c.loop-value.z (AnswersAt p (to_z w64 (of_z w64 c.args.least))) x c.args.best.now c.loop-value.best c.try_responses.new.best (omega (arith, now.inside.columns, c.requires.column)) now.from high now.moved now.best c.try_responses.ensures.best);
     }
 
 pub try_values-returns-clause-best : goal.try_values-returns-clause-best

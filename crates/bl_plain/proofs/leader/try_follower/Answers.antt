@@ -1,10 +1,7 @@
-use Rattle.std.proofs.Common.{◌≡◌, ap, List, rules, ◌<◌}
-use Rattle.std.specs.Prelude.{ℤ, Some, None}
+use Rattle.std.proofs.Common.{rules}
 use Rattle.std.specs.Int.{w64}
-use mir.Val.{to_z, of_z, SFits}
+use mir.Val.{SFits}
 use Rattle.std.proofs.lemmas.Int.{to_z-of_z}
-use Rattle.std.proofs.lemmas.List.Elements.{All-same}
-use Rattle.bl_terms.specs.Programs.{columns}
 use Rattle.bl_plain.proofs.WalkLemmas.{In-varies, Varies-trans}
 use Rattle.bl_plain.proofs.BestLemmas.{follower-below}
 use Rattle.bl_plain.proofs.FollowerLemmas.{follower_found, follower_absent}
