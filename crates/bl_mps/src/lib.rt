@@ -7,6 +7,7 @@ mod entries;
 mod names;
 mod numbers;
 mod rows;
+mod sections;
 mod stop;
 
 pub use names::NameTable;
