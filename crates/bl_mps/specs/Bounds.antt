@@ -14,7 +14,7 @@ unfoldable pub upper_in : Bytes → List Bytes → Option ℤ
 upper_in column fields = do
   line ← bound_in fields
   if bytes_eq line.kind (codes "UP") && (bytes_eq line.column column && not (starts_with_minus line.number))
-    then number_within 10000000 line.number else None
+      then number_within 10000000 line.number else None
 
 -- the upper bounds with that of a line, which is the next column's
 unfoldable pub bound_taken_up : List Bytes → List ℤ → List Bytes → Option (List ℤ)

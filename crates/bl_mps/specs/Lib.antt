@@ -1,6 +1,7 @@
 pub mod Bounds
 pub mod Columns
 pub mod ColumnViews
+pub mod Entries
 pub mod First
 pub mod Lines
 pub mod Numbers

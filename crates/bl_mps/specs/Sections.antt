@@ -50,5 +50,5 @@ sections_in lines = do
   bounds ← data_split lines
   lines ← behind_heading (codes "ENDATA") bounds.1
   if length lines == 0
-    then Some (record { rows = rows.0; columns = columns.0; right_sides = right_sides.0; bounds = bounds.0 })
-    else None
+      then Some (record { rows = rows.0; columns = columns.0; right_sides = right_sides.0; bounds = bounds.0 })
+      else None

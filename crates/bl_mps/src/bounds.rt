@@ -5,13 +5,12 @@ ghost use Rattle.bl_text.specs.Lines.{lines_of};
 ghost use Rattle.bl_mps.specs.Bounds.{IsUpper, upper_in, bound_taken_up, uppers_in};
 ghost use Rattle.bl_mps.specs.Stops.{Gives, Leaves};
 
-use bl_text::lines_of;
-use std::alloc::Global;
-
 use crate::entries::{bound_line, is_word};
 use crate::names::NameTable;
 use crate::numbers::number_within;
 use crate::stop::Stop;
+use bl_text::lines_of;
+use std::alloc::Global;
 
 /// The largest upper bound.
 const MOST_BOUND: u64 = 10_000_000;

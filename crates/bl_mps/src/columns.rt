@@ -8,13 +8,12 @@ ghost use Rattle.bl_mps.specs.Numbers.{AreWithin};
 ghost use Rattle.bl_mps.specs.Stops.{Gives, Leaves};
 ghost use Rattle.bl_mps.specs.Views.{entry_view};
 
-use bl_text::{lines_of, split_line};
-use std::alloc::Global;
-
 use crate::entries::{Entry, entry_line, is_marker};
 use crate::names::NameTable;
 use crate::numbers::Numbers;
 use crate::stop::Stop;
+use bl_text::{lines_of, split_line};
+use std::alloc::Global;
 
 const MOST_COLUMNS: usize = 120;
 
@@ -83,7 +82,9 @@ fn enter_last(rows: &NameTable, columns: &mut Columns, entry: &Entry<'_>) -> Res
 {
     let last = columns.numbers.len() - 1;
     let numbers = &mut columns.numbers[last];
-    numbers.enter(rows, MOST_COEFFICIENT, entry).ok_or(Stop::NotFirst)
+    numbers
+        .enter(rows, MOST_COEFFICIENT, entry)
+        .ok_or(Stop::NotFirst)
 }
 
 /// Reads the lines under COLUMNS, which stand between two marker lines.

@@ -5,12 +5,11 @@ ghost use Rattle.bl_mps.specs.Lines.{entry_in};
 ghost use Rattle.bl_mps.specs.Numbers.{number_within, entered, taken_up, AreWithin};
 ghost use Rattle.bl_mps.specs.Views.{pair_view, entry_view};
 
+use crate::entries::{Entry, Pair};
+use crate::names::NameTable;
 use bl_text::short_number;
 use std::alloc::{AllocError, Global};
 use std::marker::Model;
-
-use crate::entries::{Entry, Pair};
-use crate::names::NameTable;
 
 /// At most one number for each row's name, by the place of the name. Contracts see the list.
 #[derive(Drop)]
@@ -49,7 +48,7 @@ impl Numbers {
         ensures small { (most : ℕ) → unsigned_abs number ≤ most → AreWithin most self.old → AreWithin most self.new }
         ensures entered { MatchOption result (is_some (slice_index_or self.old place None) ≡ true)
             (λ _. (is_some (slice_index_or self.old place None) ≡ false)
-                × (self.new ≡ slice_set self.old place (Some number))) }
+            × (self.new ≡ slice_set self.old place (Some number))) }
     {
         if self.by_place[place].is_some() {
             return None;

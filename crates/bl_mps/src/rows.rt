@@ -8,12 +8,11 @@ ghost use Rattle.bl_mps.specs.Rows.{sense_in, objective_in, row_taken_up, rows_i
 ghost use Rattle.bl_mps.specs.RowViews.{rows_view, HasSenses};
 ghost use Rattle.bl_mps.specs.Stops.{Gives, Leaves};
 
-use bl_text::{lines_of, split_line};
-use std::alloc::Global;
-
 use crate::entries::{is_word, only_pair};
 use crate::names::NameTable;
 use crate::stop::Stop;
+use bl_text::{lines_of, split_line};
+use std::alloc::Global;
 
 /// The most names of rows, that of the objective among them.
 const MOST_NAMES: usize = 201;

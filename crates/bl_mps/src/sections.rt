@@ -6,11 +6,11 @@ ghost use Rattle.bl_text.specs.Lines.{lines_of};
 ghost use Rattle.bl_mps.specs.Sections.{begins_section, is_heading, behind_heading, data_split, sections_in};
 ghost use Rattle.bl_mps.specs.SectionViews.{sections_view};
 
+use crate::entries::is_word;
 use bl_text::{begins_with_blank, split_field, split_line};
 
-use crate::entries::is_word;
-
 /// The data lines of the sections of a text.
+#[derive(Drop)]
 pub struct Sections<'a> {
     pub rows: &'a [u8],
     pub columns: &'a [u8],

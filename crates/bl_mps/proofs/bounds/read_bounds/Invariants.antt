@@ -9,4 +9,4 @@ use Rattle.bl_mps.proofs.bounds.read_bounds.Given as goal
 abbrev pub invariant-loop-line : goal.invariant-loop-line
 invariant-loop-line l = All IsUpper l.uppers.items
     × (taken_up (bound_taken_up l.columns) [] (map fields_of (lines_of l.text))
-      ≡ taken_up (bound_taken_up l.columns) l.uppers.items (map fields_of l.line-iterator))
+    ≡ taken_up (bound_taken_up l.columns) l.uppers.items (map fields_of l.line-iterator))
