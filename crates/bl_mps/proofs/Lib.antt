@@ -1,1 +1,3 @@
 pub mod NameLists
+pub mod DataSplits
+pub mod Tables

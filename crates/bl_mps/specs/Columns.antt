@@ -1,8 +1,8 @@
 -- The columns and the right sides of a text in the first form.
-use Rattle.std.specs.Prelude.{ℕ, ◌+◌, ◌-◌, Bool, not, ◌&&◌, ◌==◌, ◌++◌, List, [], ◌∷◌, Option, Some, None, nat_lt, length, position, replicate, slice_index_or, slice_set, codes, if◌then◌else◌, ℤ, is_some, All, ◌≡◌}
+use Rattle.std.specs.Prelude.{ℕ, ◌+◌, ◌-◌, Bool, not, ◌&&◌, ◌==◌, ◌++◌, List, [], ◌∷◌, Option, Some, None, nat_lt, length, position, replicate, slice_index_or, slice_set, codes, if◌then◌else◌, ℤ, is_some, All, ◌≡◌, ◌≤◌}
 use Rattle.std.specs.Str.{bytes_eq}
 use Rattle.bl_mps.specs.Lines.{Bytes, EntryFields, entry_in, is_marker}
-use Rattle.bl_mps.specs.Numbers.{◌>>=◌, taken_up, entered}
+use Rattle.bl_mps.specs.Numbers.{◌>>=◌, taken_up, entered, AreWithin}
 use Rattle.bl_mps.specs.Rows.{added}
 
 -- the names of the columns, and beside each its numbers by the places of the rows' names
@@ -10,10 +10,12 @@ pub record ColumnList : Type 0 where
   pub names : List Bytes
   pub numbers : List (List (Option ℤ))
 
--- each column has a place for the name of each row
+-- each column has a place for the name of each row, and small numbers there
 pub record HasPlaces (rows : ℕ) (columns : ColumnList) : Type 0 where
   pub counts : length columns.numbers ≡ length columns.names
   pub places : All (λ numbers. length numbers ≡ rows) columns.numbers
+  pub small : All (AreWithin 10000000) columns.numbers
+  pub room : length columns.names ≤ 120
 
 -- the columns with room for this one's numbers: where the column isn't there yet it begins at the end, and else it is the last
 abbrev pub begun_at : Option ℕ → ℕ → ColumnList → Bytes → Option ColumnList

@@ -1,9 +1,13 @@
 pub mod Bounds
 pub mod Columns
 pub mod ColumnViews
+pub mod Entries
+pub mod First
 pub mod Lines
 pub mod Numbers
 pub mod Rows
 pub mod RowViews
+pub mod Sections
+pub mod SectionViews
 pub mod Stops
 pub mod Views

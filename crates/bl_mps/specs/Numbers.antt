@@ -1,5 +1,5 @@
 -- Numbers beside the names of rows.
-use Rattle.std.specs.Prelude.{ℕ, ℤ, Bool, List, [], ◌∷◌, Option, Some, None, nat_le, unsigned_abs, is_some, slice_index_or, slice_set, position, option_and_then, if◌then◌else◌}
+use Rattle.std.specs.Prelude.{ℕ, ℤ, Bool, List, [], ◌∷◌, Option, Some, None, nat_le, unsigned_abs, is_some, slice_index_or, slice_set, position, option_and_then, All, IfSome, ◌≤◌, if◌then◌else◌}
 use Rattle.std.specs.Str.{bytes_eq}
 use Rattle.bl_text.specs.Numbers.{short_number}
 use Rattle.bl_mps.specs.Lines.{Bytes}
@@ -23,3 +23,7 @@ entered names most numbers pair = do
   place ← position (bytes_eq pair.0) names
   number ← number_within most pair.1
   if is_some (slice_index_or numbers place None) then None else Some (slice_set numbers place (Some number))
+
+-- each number is of at most this magnitude
+abbrev pub AreWithin : ℕ → List (Option ℤ) → Type 0
+AreWithin most numbers = All (λ number. IfSome number (λ z. unsigned_abs z ≤ most)) numbers

@@ -2,16 +2,15 @@
 ghost use Rattle.std.specs.Prelude.{◌≡◌, ◌++◌, ◌≤◌, ◌≤ℤ◌, pos, unsigned_abs, length, map, vec_len, All, IfOk, IfSome};
 ghost use Rattle.bl_text.specs.Fields.{fields_of};
 ghost use Rattle.bl_text.specs.Lines.{lines_of};
-ghost use Rattle.bl_mps.specs.Bounds.{IsUpper, upper_in, uppers_in};
-ghost use Rattle.bl_mps.specs.Stops.{Gives};
-
-use bl_text::lines_of;
-use std::alloc::Global;
+ghost use Rattle.bl_mps.specs.Bounds.{IsUpper, upper_in, bound_taken_up, uppers_in};
+ghost use Rattle.bl_mps.specs.Stops.{Gives, Leaves};
 
 use crate::entries::{bound_line, is_word};
 use crate::names::NameTable;
 use crate::numbers::number_within;
 use crate::stop::Stop;
+use bl_text::lines_of;
+use std::alloc::Global;
 
 /// The largest upper bound.
 const MOST_BOUND: u64 = 10_000_000;
@@ -29,7 +28,24 @@ fn upper_bound(column: &[u8], line: &[u8]) -> Option<i64>
     number_within(MOST_BOUND, bound.number)
 }
 
+/// Takes up a line, which gives the next column its upper bound.
+#[tactic(auto, unfolding(crate::specs::Bounds::bound_taken_up))]
+fn add_bound(columns: &NameTable, uppers: &mut Vec<i64>, line: &[u8]) -> Result<(), Stop>
+    requires { All IsUpper uppers.old.items }
+    ensures range { All IsUpper uppers.new.items }
+    ensures taken_up { Leaves result uppers.new.items (bound_taken_up columns.now uppers.old.items (fields_of line.now)) }
+{
+    let place = uppers.len();
+    if place >= columns.len() {
+        return Err(Stop::NotFirst);
+    }
+    let upper = upper_bound(columns.at(place), line).ok_or(Stop::NotFirst)?;
+    uppers.push(upper)?;
+    Ok(())
+}
+
 /// Reads the lines under BOUNDS: the upper bounds of the columns in their order.
+#[tactic(auto, unfolding(crate::specs::Bounds::uppers_in, crate::specs::Numbers::taken_up))]
 pub fn read_bounds(alloc: Global, columns: &NameTable, text: &[u8]) -> Result<Vec<i64>, Stop>
     ensures count { IfOk result (λ uppers. vec_len uppers ≡ length columns.now) }
     ensures range { IfOk result (λ uppers. All IsUpper uppers.items) }
@@ -37,14 +53,9 @@ pub fn read_bounds(alloc: Global, columns: &NameTable, text: &[u8]) -> Result<Ve
 {
     let mut uppers = Vec::new(alloc);
     for line in lines_of(text) {
-        let place = uppers.len();
-        if place >= columns.len() {
-            return Err(Stop::NotFirst);
-        }
-        let upper = upper_bound(columns.at(place), line).ok_or(Stop::NotFirst)?;
-        uppers.push(upper)?;
+        add_bound(columns, &mut uppers, line)?;
     }
-    if uppers.len() < columns.len() {
+    if uppers.len() != columns.len() {
         return Err(Stop::NotFirst);
     }
     Ok(uppers)

@@ -4,16 +4,16 @@ ghost use Rattle.bl_text.specs.Fields.{fields_of};
 ghost use Rattle.bl_text.specs.Lines.{lines_of};
 ghost use Rattle.bl_mps.specs.Columns.{HasPlaces, begun, last_entered, column_taken_up, columns_in, columns_from, right_side_taken_up, right_sides_in};
 ghost use Rattle.bl_mps.specs.ColumnViews.{columns_view};
+ghost use Rattle.bl_mps.specs.Numbers.{AreWithin};
 ghost use Rattle.bl_mps.specs.Stops.{Gives, Leaves};
 ghost use Rattle.bl_mps.specs.Views.{entry_view};
-
-use bl_text::{lines_of, split_line};
-use std::alloc::Global;
 
 use crate::entries::{Entry, entry_line, is_marker};
 use crate::names::NameTable;
 use crate::numbers::Numbers;
 use crate::stop::Stop;
+use bl_text::{lines_of, split_line};
+use std::alloc::Global;
 
 const MOST_COLUMNS: usize = 120;
 
@@ -82,7 +82,9 @@ fn enter_last(rows: &NameTable, columns: &mut Columns, entry: &Entry<'_>) -> Res
 {
     let last = columns.numbers.len() - 1;
     let numbers = &mut columns.numbers[last];
-    numbers.enter(rows, MOST_COEFFICIENT, entry).ok_or(Stop::NotFirst)
+    numbers
+        .enter(rows, MOST_COEFFICIENT, entry)
+        .ok_or(Stop::NotFirst)
 }
 
 /// Reads the lines under COLUMNS, which stand between two marker lines.
@@ -124,6 +126,7 @@ fn ended_columns(columns: Columns, after: &[u8]) -> Result<Columns, Stop>
 fn add_right_sides(rows: &NameTable, sides: &mut Numbers, line: &[u8]) -> Result<(), Stop>
     requires { length sides.old ≡ length rows.now }
     ensures places { length sides.new ≡ length sides.old }
+    ensures small { AreWithin 1000000000000000 sides.old → AreWithin 1000000000000000 sides.new }
     ensures taken_up { Leaves result sides.new (right_side_taken_up rows.now sides.old (fields_of line.now)) }
 {
     let entry = entry_line(line).ok_or(Stop::NotFirst)?;
@@ -138,6 +141,7 @@ fn add_right_sides(rows: &NameTable, sides: &mut Numbers, line: &[u8]) -> Result
 pub fn read_right_sides(alloc: Global, rows: &NameTable, text: &[u8]) -> Result<Numbers, Stop>
     requires { 0 < length rows.now }
     ensures places { IfOk result (λ sides. length sides ≡ length rows.now) }
+    ensures small { IfOk result (AreWithin 1000000000000000) }
     ensures exact { Gives (λ sides. sides) result (right_sides_in rows.now (map fields_of (lines_of text.now))) }
 {
     let mut sides = Numbers::none(alloc, rows.len())?;

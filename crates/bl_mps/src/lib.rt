@@ -4,9 +4,15 @@
 mod bounds;
 mod columns;
 mod entries;
+mod first;
 mod names;
 mod numbers;
+mod raw;
 mod rows;
+mod sections;
 mod stop;
 
-pub use names::NameTable;
+pub use first::read_first;
+
+#[cfg(test)]
+mod tests;

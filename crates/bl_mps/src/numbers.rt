@@ -2,15 +2,14 @@
 ghost use Rattle.std.specs.Prelude.{◌≡◌, ◌≤◌, ◌<◌, ℕ, ◌∷◌, [], length, MatchOption, IfSome, IfOk, All, Some, None, replicate, slice_index_or, slice_set, is_some, true, false, unsigned_abs, if◌then◌else◌};
 ghost use Rattle.std.specs.Option.{option_to_list};
 ghost use Rattle.bl_mps.specs.Lines.{entry_in};
-ghost use Rattle.bl_mps.specs.Numbers.{number_within, entered, taken_up};
+ghost use Rattle.bl_mps.specs.Numbers.{number_within, entered, taken_up, AreWithin};
 ghost use Rattle.bl_mps.specs.Views.{pair_view, entry_view};
-
-use bl_text::short_number;
-use std::alloc::{AllocError, Global};
-use std::marker::Model;
 
 use crate::entries::{Entry, Pair};
 use crate::names::NameTable;
+use bl_text::short_number;
+use std::alloc::{AllocError, Global};
+use std::marker::Model;
 
 /// At most one number for each row's name, by the place of the name. Contracts see the list.
 #[derive(Drop)]
@@ -46,9 +45,10 @@ impl Numbers {
     fn enter_at(&mut self, place: usize, number: i64) -> Option<()>
         requires { place < length self.old }
         ensures places { length self.new ≡ length self.old }
+        ensures small { (most : ℕ) → unsigned_abs number ≤ most → AreWithin most self.old → AreWithin most self.new }
         ensures entered { MatchOption result (is_some (slice_index_or self.old place None) ≡ true)
             (λ _. (is_some (slice_index_or self.old place None) ≡ false)
-                × (self.new ≡ slice_set self.old place (Some number))) }
+            × (self.new ≡ slice_set self.old place (Some number))) }
     {
         if self.by_place[place].is_some() {
             return None;
@@ -63,6 +63,7 @@ impl Numbers {
     fn enter_pair(&mut self, names: &NameTable, most: u64, pair: Pair<'_>) -> Option<()>
         requires { length self.old ≡ length names.now }
         ensures places { length self.new ≡ length self.old }
+        ensures small { AreWithin most self.old → AreWithin most self.new }
         ensures entered { MatchOption result (entered names.now most self.old (pair_view pair.entry) ≡ None)
             (λ _. entered names.now most self.old (pair_view pair.entry) ≡ Some self.new) }
     {
@@ -76,6 +77,7 @@ impl Numbers {
     pub fn enter(&mut self, names: &NameTable, most: u64, entry: &Entry<'_>) -> Option<()>
         requires { length self.old ≡ length names.now }
         ensures places { length self.new ≡ length self.old }
+        ensures small { AreWithin most self.old → AreWithin most self.new }
         ensures entered { MatchOption result
             (taken_up (entered names.now most) self.old (entry_view entry.now).pairs ≡ None)
             (λ _. taken_up (entered names.now most) self.old (entry_view entry.now).pairs ≡ Some self.new) }

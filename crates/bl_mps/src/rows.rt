@@ -1,19 +1,18 @@
 //! The lines under ROWS.
-ghost use Rattle.std.specs.Prelude.{◌≡◌, ◌+◌, ◌<◌, [], ◌∷◌, length, map, vec_len, IfOk, codes};
+ghost use Rattle.std.specs.Prelude.{◌≡◌, ◌+◌, ◌<◌, [], ◌∷◌, length, map, vec_len, IfOk, OnOk, codes};
 ghost use Rattle.std.specs.Option.{option_map};
 ghost use Rattle.bl_text.specs.Fields.{fields_of};
 ghost use Rattle.bl_text.specs.Lines.{lines_of};
 ghost use Rattle.bl_mps.specs.Lines.{pair_in};
 ghost use Rattle.bl_mps.specs.Rows.{sense_in, objective_in, row_taken_up, rows_in};
-ghost use Rattle.bl_mps.specs.RowViews.{rows_view};
+ghost use Rattle.bl_mps.specs.RowViews.{rows_view, HasSenses};
 ghost use Rattle.bl_mps.specs.Stops.{Gives, Leaves};
-
-use bl_text::{lines_of, split_line};
-use std::alloc::Global;
 
 use crate::entries::{is_word, only_pair};
 use crate::names::NameTable;
 use crate::stop::Stop;
+use bl_text::{lines_of, split_line};
+use std::alloc::Global;
 
 /// The most names of rows, that of the objective among them.
 const MOST_NAMES: usize = 201;
@@ -47,7 +46,8 @@ fn sense_of(kind: &[u8]) -> Option<Sense>
 /// The objective's line: the rows begin with its name.
 #[tactic(auto, unfolding(crate::specs::Rows::objective_in))]
 fn read_objective(alloc: Global, line: &[u8]) -> Result<Rows, Stop>
-    ensures { Gives rows_view result (objective_in (fields_of line.now)) }
+    ensures counts { IfOk result HasSenses }
+    ensures exact { Gives rows_view result (objective_in (fields_of line.now)) }
 {
     let pair = only_pair(line).ok_or(Stop::NotFirst)?;
     if is_word(pair.second, "'MARKER'") || !is_word(pair.first, "N") {
@@ -64,7 +64,9 @@ fn read_objective(alloc: Global, line: &[u8]) -> Result<Rows, Stop>
 /// Takes up the line of a row.
 #[tactic(auto, unfolding(crate::specs::Rows::row_taken_up))]
 fn add_row(alloc: Global, rows: &mut Rows, line: &[u8]) -> Result<(), Stop>
-    ensures { Leaves result (rows_view rows.new) (row_taken_up (rows_view rows.old) (fields_of line.now)) }
+    requires { HasSenses rows.old }
+    ensures counts { OnOk result (HasSenses rows.new) }
+    ensures taken_up { Leaves result (rows_view rows.new) (row_taken_up (rows_view rows.old) (fields_of line.now)) }
 {
     let pair = only_pair(line).ok_or(Stop::NotFirst)?;
     let sense = sense_of(pair.first).ok_or(Stop::NotFirst)?;
@@ -82,7 +84,8 @@ fn add_row(alloc: Global, rows: &mut Rows, line: &[u8]) -> Result<(), Stop>
 /// Reads the lines under ROWS.
 #[tactic(auto, unfolding(crate::specs::Rows::rows_in, crate::specs::Numbers::taken_up))]
 pub fn read_rows(alloc: Global, text: &[u8]) -> Result<Rows, Stop>
-    ensures { Gives rows_view result (rows_in (map fields_of (lines_of text.now))) }
+    ensures counts { IfOk result HasSenses }
+    ensures exact { Gives rows_view result (rows_in (map fields_of (lines_of text.now))) }
 {
     let (first, rest) = split_line(text).ok_or(Stop::NotFirst)?;
     let mut rows = read_objective(alloc, first)?;

@@ -4,7 +4,8 @@ use Rattle.std.specs.List.{onto_first, flat_map, AllByRecursion}
 use Rattle.std.proofs.lemmas.Bool.{eqb-true}
 use Rattle.bl_text.specs.Lines.{lines_of, ended, unended, IsLine, HasItsLines, IsItsLines}
 
-lines_of-line : (line rest : List ℕ) → IsLine line → lines_of (line ++ 10 ∷ rest) ≡ line ∷ lines_of rest
+-- a line comes first, and the lines of the rest follow
+pub lines_of-line : (line rest : List ℕ) → IsLine line → lines_of (line ++ 10 ∷ rest) ≡ line ∷ lines_of rest
 lines_of-line [] rest h = refl
 lines_of-line (b ∷ bs) rest h = rw (h.0, lines_of-line bs rest h.1) refl
 

@@ -3,9 +3,9 @@ use Rattle.bl_text.specs.Fields.{fields_of}
 use Rattle.bl_mps.specs.Numbers.{taken_up}
 use Rattle.bl_mps.specs.Rows.{row_taken_up, rows_in}
 use Rattle.bl_text.specs.Lines.{lines_of}
-use Rattle.bl_mps.specs.RowViews.{rows_view}
+use Rattle.bl_mps.specs.RowViews.{rows_view, HasSenses}
 use Rattle.bl_mps.proofs.rows.read_rows.Given as goal
 
 abbrev pub invariant-loop-line : goal.invariant-loop-line
-invariant-loop-line l =
-    rows_in (map fields_of (lines_of l.text)) ≡ taken_up row_taken_up (rows_view l.rows) (map fields_of l.line-iterator)
+invariant-loop-line l = HasSenses l.rows
+    × (rows_in (map fields_of (lines_of l.text)) ≡ taken_up row_taken_up (rows_view l.rows) (map fields_of l.line-iterator))
