@@ -1,8 +1,12 @@
 //! The program's commands.
 #![tactic(auto)]
 
+mod aux_text;
 mod report;
+mod solve;
+mod status;
+mod top;
 mod words;
 
-pub use report::{INFEASIBLE, optimal_report};
-pub use words::{SolveWords, solve_words};
+pub use status::Status;
+pub use top::{run, run_alone};
