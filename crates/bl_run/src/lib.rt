@@ -9,4 +9,4 @@ mod top;
 mod words;
 
 pub use status::Status;
-pub use top::{run, run_alone};
+pub use top::{run, run_alone, want_memory};

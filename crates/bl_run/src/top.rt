@@ -48,3 +48,9 @@ fn command<'a, F: Shelf, O: Sink>(
     let words = solve_words(words).ok_or(Failure::Words)?;
     solve(alloc, words, files, out)
 }
+
+/// The answer where not even the words could be read for want of memory.
+pub fn want_memory<E: Sink>(err: &mut E) -> Status {
+    let _ = Failure::Memory.tell(err);
+    Failure::Memory.status()
+}
