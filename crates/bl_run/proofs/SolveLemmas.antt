@@ -23,9 +23,9 @@ product_below-grows n zero f one le = let same : n ≡ zero = omega arith in rw 
 product_below-grows n (suc m) f one le =
     ⊎_elim
     (λ less.
-      let before = product_below-grows n m f (λ k b. one k (omega arith)) (omega (arith, less)) in
-      let step = mul-le (product_below m f) 1 (product_below m f) (f m) (omega arith) (one m (omega arith)) in
-      omega (arith, before, step))
+    let before = product_below-grows n m f (λ k b. one k (omega arith)) (omega (arith, less)) in
+    let step = mul-le (product_below m f) 1 (product_below m f) (f m) (omega arith) (one m (omega arith)) in
+    omega (arith, before, step))
     (λ more. let same : n ≡ suc m = omega (arith, more, le) in rw same (omega arith))
     (cases_lt n (suc m))
 

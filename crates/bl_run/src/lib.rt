@@ -5,6 +5,8 @@ mod aux_text;
 mod report;
 mod solve;
 mod status;
+#[cfg(test)]
+mod tests;
 mod top;
 mod words;
 
