@@ -1,1 +1,2 @@
+pub mod AuxLemmas
 pub mod SolveLemmas
