@@ -1,6 +1,6 @@
 -- The lines of an auxiliary text are told apart.
-use Rattle.std.proofs.Common.{◌≡◌, ◌≢◌, ℕ, suc, ◌+◌, ◌^◌, ◌<◌, ◌≤◌, Bool, true, false, eqb, List, [], ◌∷◌, ◌++◌, length, Option, Some, None, refl, sym, ap, ◌∙◌, arith, ℤ, pos, negsuc, inl, inr, append_assoc, length-append, subst, map, unsigned_abs, get_or, set, take, replicate, ◌||◌, get_or-set_other, get_or-set_same}
-use Rattle.std.specs.Prelude.{MatchOption, All, IsTrue}
+use Rattle.std.proofs.Common.{◌≡◌, ◌≢◌, ℕ, zero, suc, ◌+◌, ◌⊎◌, ◌<◌, ◌≤◌, Bool, true, false, eqb, List, [], ◌∷◌, ◌++◌, length, Option, Some, None, refl, sym, ap, ◌∙◌, arith, ℤ, pos, negsuc, inl, inr, append_assoc, length-append, subst, map, unsigned_abs, get_or, set, take, replicate}
+use Rattle.std.specs.Prelude.{MatchOption, All, IsTrue, codes}
 use Rattle.std.specs.Borrow.{Bor}
 use Rattle.std.specs.Fmt.{decimal, signed_decimal}
 use Rattle.std.specs.Str.Parse.{AllDigits}
@@ -9,16 +9,19 @@ use Rattle.std.proofs.lemmas.Fmt.{decimal_is_IsNumeral, signed_decimal_injective
 use Rattle.std.proofs.lemmas.Str.Parse.{digit_at}
 use Rattle.std.proofs.lemmas.Int.{ints}
 use Rattle.std.specs.Int.Signed.{lt_z}
-use Rattle.std.proofs.lemmas.List.{append_cancel_left, append-nil, nil_from_length, take_more, map-append, length-map, take-map, length-take, get_or-take}
-use Rattle.std.proofs.lemmas.List.Elements.{All-nil, All-push, All-drop, All-head, All-map, All-weaker}
+use Rattle.std.proofs.lemmas.List.{append_cancel_left, append-nil, nil_from_length, take_all, take_more, map-append, length-map, length-take, get_or-take, get_or-map, get_or_default, length-set, length-replicate, get_or-set_other, get_or-set_same}
+use Rattle.std.proofs.Math.Bool.{or-true, or-false}
+use Rattle.std.proofs.lemmas.List.Elements.{All-nil, All-push, All-drop, All-head, All-map, All-weaker, recursion_from_All}
 use Rattle.std.proofs.lemmas.List.Folds.{list_any-append, list_any_at, Any-from_list_any}
+use Rattle.std.proofs.lemmas.Map.Steps.{length-le_from_distinct_below}
 use Rattle.std.proofs.lemmas.List.Quantifiers.{all_pairs_push}
-use Rattle.std.specs.List.{list_any}
+use Rattle.std.specs.List.{list_any, IsDistinct}
 use Rattle.std.proofs.lemmas.Grind.{flat_map-append}
 use Rattle.std.proofs.Math.Seq.{drop-append_seam}
 use Rattle.bl_text.specs.Lines.{lines_of, IsLine, IsCut}
-use Rattle.bl_model.specs.Raw.{IsSense, IsSmall, AreDistinct}
-use Rattle.bl_run.specs.AuxText.{number_line, aux_line, aux_lines, IsFound, IsMissing, IsNumber, AreNumbers, ArePlaces, AreCosts, place_lines, AreCounts, count_lines}
+use Rattle.bl_model.specs.declared.raw.RawAux.{RawAux}
+use Rattle.bl_model.specs.Raw.{IsSense, AreDistinct, FitsModel}
+use Rattle.bl_run.specs.AuxText.{number_line, aux_line, aux_lines, IsFound, IsMissing, IsNumber, AreNumbers, ArePlaces, AreCosts, AreCounts, place_lines, count_lines, aux_text}
 
 digits_are_line : (ds : List ℕ) → AllDigits 10 ds → IsLine ds
 digits_are_line [] h = tt
@@ -273,23 +276,35 @@ placing_start limit numbers marks clear = record {
 
 marked_more : (marks : List Bool) (places : List ℕ) (p k : ℕ) → p < length marks → get_or marks k false ≡ list_any (eqb k) places → (eqb k p ≡ true) ⊎ (eqb k p ≡ false)
     → get_or (set marks p true) k false ≡ list_any (eqb k) (places ++ p ∷ [])
-marked_more marks places p k lt at (inl same) = ?
-marked_more marks places p k lt at (inr other) = ?
+marked_more marks places p k lt at (inl same) =
+    ap (λ (q : ℕ). get_or (set marks p true) q false) (eqb-true k p same)
+    ∙ get_or-set_same marks p true false lt
+    ∙ sym (list_any-append (eqb k) places (p ∷ []) ∙ rw same (or-true (list_any (eqb k) places)))
+marked_more marks places p k lt at (inr other) =
+    get_or-set_other marks p k true false (eqb-false k p other)
+    ∙ at
+    ∙ sym (list_any-append (eqb k) places (p ∷ []) ∙ rw other (or-false (list_any (eqb k) places)))
+
+true_or_false : (b : Bool) → (b ≡ true) ⊎ (b ≡ false)
+true_or_false true = inl refl
+true_or_false false = inr refl
 
 pub placing_more : (limit : ℕ) (numbers : List ℤ) (i : ℕ) (marks : List Bool) (places : List ℕ) (p : ℕ)
     → IsPlacing limit numbers i marks places → i < length numbers → get_or numbers i (pos 0) ≡ pos p → p < limit → get_or marks p false ≡ false
     → IsPlacing limit numbers (i + 1) (set marks p true) (places ++ p ∷ [])
 placing_more limit numbers i marks places p placing lt is below free = record {
-  placed = take_more numbers i (pos 0) lt ∙ ?;
+  placed = take_more numbers i (pos 0) lt ∙ rw (placing.placed, is) (sym (map-append pos places (p ∷ [])));
   below = All-push (λ q. q < limit) places p placing.below below;
   distinct = all_pairs_push (λ x y. x ≢ y) places p placing.distinct
       (λ k d within same. false≢true (sym free ∙ placing.marked p ∙ list_any_at (eqb p) places k d within (eq-eqb _ _ (sym same))));
-  counted = ? ∙ placing.counted;
-  marked = λ k. marked_more marks places p k (omega (arith, placing.counted)) (placing.marked k) ?;
+  counted = length-set marks p true ∙ placing.counted;
+  marked = λ k. marked_more marks places p k (omega (arith, placing.counted)) (placing.marked k) (true_or_false (eqb k p));
 }
 
 number_of_place : (numbers : List ℤ) (ys : List ℕ) (i : ℕ) → numbers ≡ map pos ys → i < length numbers → (i < length ys) × (get_or numbers i (pos 0) ≡ pos (get_or ys i 0))
-number_of_place numbers ys i same lt = ?
+number_of_place numbers ys i same lt =
+    let within : i < length ys = omega (arith, lt, ap length same, length-map ys pos) in
+    (within, ap (λ (zs : List ℤ). get_or zs i (pos 0)) same ∙ get_or-map pos ys i 0 (pos 0) within)
 
 -- a number that is no place below the limit
 pub placing_refused : (limit : ℕ) (numbers : List ℤ) (i : ℕ) → i < length numbers → ((p : ℕ) → p < limit → get_or numbers i (pos 0) ≢ pos p)
@@ -302,4 +317,156 @@ placing_refused limit numbers i lt refused ys below same =
 pub placing_taken : (limit : ℕ) (numbers : List ℤ) (i : ℕ) (marks : List Bool) (places : List ℕ) (p : ℕ)
     → IsPlacing limit numbers i marks places → i < length numbers → get_or numbers i (pos 0) ≡ pos p → get_or marks p false ≡ true
     → (ys : List ℕ) → AreDistinct ys → numbers ≢ map pos ys
-placing_taken limit numbers i marks places p placing lt is taken ys distinct same = ?
+placing_taken limit numbers i marks places p placing lt is taken ys distinct same =
+    let (k, x, within, at, found) = Any-from_list_any (eqb p) places (sym (placing.marked p) ∙ taken) in
+    let before : k < i = omega (arith, within, ap length placing.placed, length-map places pos, length-take i numbers) in
+    let first = number_of_place numbers ys k same (omega (arith, before, lt)) in
+    let second = number_of_place numbers ys i same lt in
+    let read : get_or numbers k (pos 0) ≡ pos (get_or places k x) =
+    sym (get_or-take i numbers k (pos 0) before) ∙ ap (λ (zs : List ℤ). get_or zs k (pos 0)) placing.placed ∙ get_or-map pos places k x (pos 0) within in
+    let equal : p ≡ x = eqb-true p x found in
+    distinct k i 0 before second.0 (cc (first.1, second.1, read, at, equal, is))
+
+pub placing_done : (limit : ℕ) (numbers : List ℤ) (i : ℕ) (marks : List Bool) (places : List ℕ) → IsPlacing limit numbers i marks places → length numbers ≤ i
+    → All (λ p. p < limit) places × AreDistinct places × (numbers ≡ map pos places)
+placing_done limit numbers i marks places placing all = (placing.below, placing.distinct, sym (take_all i numbers all) ∙ placing.placed)
+
+-- ---- lines of places
+
+fit_places : (count limit : ℕ) (ps : List ℕ) → limit ≤ 200 → ArePlaces count limit ps → AreNumbers count (map pos ps)
+fit_places count limit ps few valid = record {
+  counted = length-map ps pos ∙ valid.counted;
+  fit = All-map IsNumber pos ps (All-weaker (λ p. p < limit) (λ p. IsNumber (pos p)) (λ p lt. record { sfits = omega arith }) ps valid.below);
+}
+
+same_places : (ps qs : List ℕ) → map pos ps ≡ map pos qs → ps ≡ qs
+same_places [] [] e = refl
+same_places [] (q ∷ qs) e = absurd cc
+same_places (p ∷ ps) [] e = absurd cc
+same_places (p ∷ ps) (q ∷ qs) e =
+    let rest : map pos ps ≡ map pos qs = cc in
+    let first : p ≡ q = cc in
+    cc (same_places ps qs rest)
+
+pub places_unread : (key text : List ℕ) (count limit : ℕ) → limit ≤ 200 → IsMissing (AreNumbers count) (aux_lines key) text → IsMissing (ArePlaces count limit) (place_lines key) text
+places_unread key text count limit few missing = record { none = λ ps tail valid e. missing.none (map pos ps) tail (fit_places count limit ps few valid) e }
+
+pub places_refused : (key text : List ℕ) (count limit : ℕ) (numbers : List ℤ) (rest : List ℕ) → limit ≤ 200 → IsFound (AreNumbers count) (aux_lines key) text numbers rest
+    → ((ps : List ℕ) → All (λ p. p < limit) ps → AreDistinct ps → numbers ≢ map pos ps) → IsMissing (ArePlaces count limit) (place_lines key) text
+places_refused key text count limit numbers rest few found refused = record {
+  none = λ ps tail valid e. refused ps valid.below valid.distinct (sym (found.only (map pos ps) tail (fit_places count limit ps few valid) e).0);
+}
+
+pub places_found : (key text : List ℕ) (count limit : ℕ) (numbers : List ℤ) (rest places : List ℕ) → limit ≤ 200 → IsFound (AreNumbers count) (aux_lines key) text numbers rest
+    → All (λ p. p < limit) places × AreDistinct places × (numbers ≡ map pos places) → IsFound (ArePlaces count limit) (place_lines key) text places rest
+places_found key text count limit numbers rest places few found (below, distinct, are) = record {
+  valid = record {
+    counted = sym (length-map places pos) ∙ ap length (sym are) ∙ found.valid.counted;
+    below = below;
+    distinct = distinct;
+  };
+  front = found.front ∙ ap (λ (zs : List ℤ). aux_lines key zs ++ rest) are;
+  only = λ ps tail valid e.
+      let at = found.only (map pos ps) tail (fit_places count limit ps few valid) e in
+      (same_places ps places (at.0 ∙ are), at.1);
+}
+
+pub read_mark : (marks : List Bool) (p : ℕ) (b w : Bool) → p < length marks → b ≡ get_or marks p b → b ≡ w → get_or marks p false ≡ w
+read_mark marks p b w lt read is = get_or_default marks p false b lt ∙ sym read ∙ is
+
+-- ---- the whole text
+
+distinct_by_test : (xs : List ℕ) → AreDistinct xs → IsDistinct eqb xs
+unfolding IsDistinct
+distinct_by_test [] h = tt
+distinct_by_test (x ∷ xs) h = (
+  recursion_from_All (λ y. eqb x y ≡ false) xs (λ k d lt. ne_eqb x (get_or xs k d) (h 0 (suc k) d (omega arith) (omega arith))),
+  distinct_by_test xs (λ i j d lt within. h (suc i) (suc j) d (omega arith) (omega arith)),
+)
+
+-- no more distinct places are below a limit than it says
+few_places : (xs : List ℕ) (limit : ℕ) → All (λ x. x < limit) xs → AreDistinct xs → length xs ≤ limit
+few_places xs limit below distinct =
+    length-le_from_distinct_below xs limit (distinct_by_test xs distinct)
+    (λ q member.
+    let (k, x, within, at, found) = Any-from_list_any (eqb q) xs member in
+    let same : q ≡ x = eqb-true q x found in
+    omega (arith, below k x within, at, same))
+
+fit_counts : (column_count row_count : ℕ) (aux : RawAux) → column_count ≤ 120 → row_count ≤ 200 → FitsModel column_count row_count aux → AreCounts (length aux.columns, length aux.rows)
+fit_counts column_count row_count aux columns rows fits =
+    let n = few_places aux.columns column_count fits.columns fits.distinct_columns in
+    let m = few_places aux.rows row_count fits.rows fits.distinct_rows in
+    (record { sfits = omega (arith, n) }, record { sfits = omega (arith, m) })
+
+columns_are : (column_count row_count n : ℕ) (aux : RawAux) → FitsModel column_count row_count aux → length aux.columns ≡ n → ArePlaces n column_count aux.columns
+columns_are column_count row_count n aux fits counted = record { counted = counted; below = fits.columns; distinct = fits.distinct_columns }
+
+rows_are : (column_count row_count m : ℕ) (aux : RawAux) → FitsModel column_count row_count aux → length aux.rows ≡ m → ArePlaces m row_count aux.rows
+rows_are column_count row_count m aux fits counted = record { counted = counted; below = fits.rows; distinct = fits.distinct_rows }
+
+costs_are : (column_count row_count n : ℕ) (aux : RawAux) → FitsModel column_count row_count aux → length aux.columns ≡ n → AreCosts n aux.costs
+costs_are column_count row_count n aux fits counted = record { counted = fits.cost_count ∙ counted; small = fits.costs }
+
+-- the lines behind the counts, the columns and the rows
+abbrev from_costs : RawAux → List ℕ
+from_costs aux = aux_lines (codes "LO ") aux.costs ++ aux_line (codes "OS ") aux.sense
+
+abbrev from_rows : RawAux → List ℕ
+from_rows aux = place_lines (codes "LR ") aux.rows ++ from_costs aux
+
+abbrev from_columns : RawAux → List ℕ
+from_columns aux = place_lines (codes "LC ") aux.columns ++ from_rows aux
+
+-- what the counts and the rest are where the text is that of aux
+pub record IsCounted (aux : RawAux) (n m : ℕ) (rest : List ℕ) : Type 0 where
+  columns : length aux.columns ≡ n
+  rows : length aux.rows ≡ m
+  rest_is : rest ≡ from_columns aux
+
+pub text_uncounted : (column_count row_count : ℕ) (text : List ℕ) (aux : RawAux) → column_count ≤ 120 → row_count ≤ 200 → FitsModel column_count row_count aux → text ≡ aux_text aux
+    → IsMissing AreCounts count_lines text → ⊥
+unfolding aux_text
+text_uncounted column_count row_count text aux columns rows fits e missing =
+    missing.none (length aux.columns, length aux.rows) (from_columns aux) (fit_counts column_count row_count aux columns rows fits) e
+
+pub text_counted : (column_count row_count : ℕ) (text rest : List ℕ) (n m : ℕ) (aux : RawAux) → column_count ≤ 120 → row_count ≤ 200 → FitsModel column_count row_count aux → text ≡ aux_text aux
+    → IsFound AreCounts count_lines text (n, m) rest → IsCounted aux n m rest
+unfolding aux_text
+text_counted column_count row_count text rest n m aux columns rows fits e found =
+    let at = found.only (length aux.columns, length aux.rows) (from_columns aux) (fit_counts column_count row_count aux columns rows fits) e in
+    record {
+      columns = ap (λ (p : ℕ × ℕ). p.0) at.0;
+      rows = ap (λ (p : ℕ × ℕ). p.1) at.0;
+      rest_is = sym at.1;
+    }
+
+pub columns_unread : (column_count row_count n m : ℕ) (rest : List ℕ) (aux : RawAux) → FitsModel column_count row_count aux → IsCounted aux n m rest
+    → IsMissing (ArePlaces n column_count) (place_lines (codes "LC ")) rest → ⊥
+columns_unread column_count row_count n m rest aux fits counted missing =
+    missing.none aux.columns (from_rows aux) (columns_are column_count row_count n aux fits counted.columns) counted.rest_is
+
+pub columns_read : (column_count row_count n m : ℕ) (rest columns next : List ℕ) (aux : RawAux) → FitsModel column_count row_count aux → IsCounted aux n m rest
+    → IsFound (ArePlaces n column_count) (place_lines (codes "LC ")) rest columns next → next ≡ from_rows aux
+columns_read column_count row_count n m rest columns next aux fits counted found =
+    sym (found.only aux.columns (from_rows aux) (columns_are column_count row_count n aux fits counted.columns) counted.rest_is).1
+
+pub rows_unread : (column_count row_count n m : ℕ) (before rest : List ℕ) (aux : RawAux) → FitsModel column_count row_count aux → IsCounted aux n m before → rest ≡ from_rows aux
+    → IsMissing (ArePlaces m row_count) (place_lines (codes "LR ")) rest → ⊥
+rows_unread column_count row_count n m before rest aux fits counted at missing =
+    missing.none aux.rows (from_costs aux) (rows_are column_count row_count m aux fits counted.rows) at
+
+pub rows_read : (column_count row_count n m : ℕ) (before rest rows next : List ℕ) (aux : RawAux) → FitsModel column_count row_count aux → IsCounted aux n m before → rest ≡ from_rows aux
+    → IsFound (ArePlaces m row_count) (place_lines (codes "LR ")) rest rows next → next ≡ from_costs aux
+rows_read column_count row_count n m before rest rows next aux fits counted at found =
+    sym (found.only aux.rows (from_costs aux) (rows_are column_count row_count m aux fits counted.rows) at).1
+
+pub costs_unread : (column_count row_count n m : ℕ) (before rest : List ℕ) (aux : RawAux) → FitsModel column_count row_count aux → IsCounted aux n m before → rest ≡ from_costs aux
+    → IsMissing (AreCosts n) (aux_lines (codes "LO ")) rest → ⊥
+costs_unread column_count row_count n m before rest aux fits counted at missing =
+    missing.none aux.costs (aux_line (codes "OS ") aux.sense) (costs_are column_count row_count n aux fits counted.columns) at
+
+pub costs_read : (column_count row_count n m : ℕ) (before rest next : List ℕ) (costs : List ℤ) (aux : RawAux) → FitsModel column_count row_count aux → IsCounted aux n m before → rest ≡ from_costs aux
+    → IsFound (AreCosts n) (aux_lines (codes "LO ")) rest costs next → next ≡ aux_line (codes "OS ") aux.sense
+costs_read column_count row_count n m before rest next costs aux fits counted at found =
+    sym (found.only aux.costs (aux_line (codes "OS ") aux.sense) (costs_are column_count row_count n aux fits counted.columns) at).1

@@ -1,5 +1,5 @@
 -- The auxiliary text in its one spelling, and what a reader finds at the front of a text.
-use Rattle.std.specs.Prelude.{◌≡◌, ℕ, ◌+◌, ◌<◌, List, ◌++◌, length, map, ℤ, pos, FitsSigned, All, codes}
+use Rattle.std.specs.Prelude.{◌≡◌, ℕ, ◌<◌, List, ◌++◌, length, map, ℤ, pos, FitsSigned, All, codes}
 use Rattle.std.specs.Int.{w64}
 use Rattle.std.specs.Fmt.{signed_decimal}
 use Rattle.std.specs.List.{flat_map}

@@ -104,7 +104,11 @@ fn places<'a>(
 }
 
 /// The numbers as places, where they are distinct and each is below the limit.
-fn distinct_below(alloc: Global, limit: usize, numbers: &[i64]) -> Result<Option<Vec<u32>>, AllocError>
+fn distinct_below(
+    alloc: Global,
+    limit: usize,
+    numbers: &[i64],
+) -> Result<Option<Vec<u32>>, AllocError>
     requires { limit ≤ 200 }
     ensures { IfOk result (λ found. MatchOption found
         ((places : List ℕ) → All (λ p. p < limit) places → AreDistinct places → numbers.now ≢ map pos places)
@@ -138,7 +142,11 @@ fn place_below(limit: usize, number: i64) -> Option<u32>
 }
 
 /// So many lines of costs within their limit, and what follows them.
-fn costs<'a>(alloc: Global, count: usize, text: &'a [u8]) -> Result<Option<(Vec<i64>, &'a [u8])>, AllocError>
+fn costs<'a>(
+    alloc: Global,
+    count: usize,
+    text: &'a [u8],
+) -> Result<Option<(Vec<i64>, &'a [u8])>, AllocError>
     ensures { IfOk result (λ found. MatchOption found (IsMissing (AreCosts count) (aux_lines (codes "LO ")) text.now)
         (λ parts. IsFound (AreCosts count) (aux_lines (codes "LO ")) text.now parts.0.items parts.1.now)) }
 {
@@ -211,3 +219,6 @@ fn number_line(text: &[u8]) -> Option<(i64, &[u8])>
     }
     Some((plain_number(digits)?, rest))
 }
+
+#[cfg(test)]
+mod tests;

@@ -1,4 +1,4 @@
-use Rattle.std.proofs.Common.{◌≡◌, ◌+◌, ◌∷◌, [], ◌++◌, ◌∙◌, arith, ap, length, List, ℤ, length-append}
+use Rattle.std.proofs.Common.{◌≡◌, ◌∷◌, [], ◌++◌, arith, ap, length, length-append}
 use Rattle.std.proofs.Math.Facts.{to_z-of_z}
 use Rattle.bl_run.proofs.AuxLemmas.{reading_start, reading_more, reading_stuck, reading_done}
 use Rattle.bl_run.proofs.aux_text.lines.Goals as goal

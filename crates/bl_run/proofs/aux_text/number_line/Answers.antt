@@ -1,5 +1,5 @@
 use Rattle.std.proofs.Common.{rules}
-use Rattle.bl_run.proofs.AuxLemmas.{empty_missing, unended_missing, unnumbered_missing, number_found}
+use Rattle.bl_run.proofs.AuxLemmas.{unended_missing, unnumbered_missing, number_found}
 use Rattle.bl_run.proofs.aux_text.number_line.Goals as goal
 
 pub returns-then-digits-text : goal.returns-then-digits-text
