@@ -1,2 +1,4 @@
 pub mod AuxLemmas
+pub mod CauseLemmas
+pub mod EndingLemmas
 pub mod SolveLemmas

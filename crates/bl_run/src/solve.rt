@@ -1,21 +1,25 @@
 //! The command `solve`.
 
-ghost use Rattle.std.specs.Prelude.{◌≡◌, ◌↔◌, ◌<◌, ◌≤◌, ◌+ℤ◌, ◌-ℤ◌, ◌*ℤ◌, ◌≤ℤ◌, pos, length, unsigned_abs, IfOk, IsTrue};
+ghost use Rattle.std.specs.Prelude.{◌≡◌, ◌↔◌, ◌<◌, ◌≤◌, ◌+ℤ◌, ◌-ℤ◌, ◌*ℤ◌, ◌≤ℤ◌, pos, length, unsigned_abs, vec_len, IfOk, IfErr, MatchResult, IsTrue};
 ghost use Rattle.bl_whole.specs.Within.{IsWithin};
+ghost use Rattle.bl_outer.specs.Files.{Holds, IfTold};
 ghost use Rattle.bl_terms.specs.Programs.{root, In, follower_at, columns as column_count};
 ghost use Rattle.bl_plain.specs.Walk.{IsAnswer};
 ghost use Rattle.bl_terms.specs.Trees.{point_count};
 ghost use Rattle.bl_model.specs.Raw.{KeepsLimits, FitsModel};
+ghost use Rattle.bl_model.specs.Build.{program_of};
+ghost use Rattle.bl_run.specs.Endings.{CountsReadFault, CountsMissing, CountsWriteFault, IsOfReading};
+ghost use Rattle.bl_run.specs.Solve.{MpsReads, AuxReads, FileFails, MpsFails, AuxFails, ModelFails, SolveFails, LeavesOut, IsWalkable, Says, Prints};
 
 use crate::aux_text::read_aux_first;
 use crate::report::{INFEASIBLE, optimal_report};
-use crate::status::{Failure, Status};
+use crate::status::{Answer, Failure};
 use crate::words::SolveWords;
 use bl_model::{Bilevel, RawAux, RawColumn, RawMps, build};
 use bl_mps::read_first;
 use bl_outer::{Got, ReadFail, Shelf, Sink, read_text};
 use bl_plain::{Optimum, plain_best};
-use std::alloc::Global;
+use std::alloc::{AllocError, Global};
 
 /// The most bytes of a text that is read.
 const TEXT_LIMIT: u64 = 16_777_216;
@@ -23,34 +27,68 @@ const TEXT_LIMIT: u64 = 16_777_216;
 /// The most points of a box that is walked.
 const POINT_LIMIT: u64 = 1_000_000;
 
+// An answer and its text.
+#[derive(Drop)]
+struct Report {
+    answer: Answer,
+    text: Vec<u8>,
+}
+
 /// Reads both texts, solves, and prints the report.
 pub(crate) fn solve<'a, F: Shelf, O: Sink>(
     alloc: Global,
     words: SolveWords<'a>,
     files: &mut F,
     out: &mut O,
-) -> Result<Status, Failure<'a>> {
+) -> Result<Answer, Failure<'a>>
+    ensures printed { IfOk result (λ answer. Prints answer (F.contents files.old) words.entry.mps.now words.entry.aux.now
+        (O.bytes out.old) (O.bytes out.new)) }
+    ensures failed { IfErr result (SolveFails (F.contents files.old) words.entry.mps.now words.entry.aux.now
+        (O.bytes out.old) (O.bytes out.new)) }
+    ensures out { IfErr result (LeavesOut (O.bytes out.old) (O.bytes out.new)) }
+
+    ensures files { F.contents files.new ≡ F.contents files.old }
+    ensures read_faults { MatchResult result (λ _. F.read_faults files.new ≡ F.read_faults files.old)
+        (CountsReadFault (F.read_faults files.old) (F.read_faults files.new)) }
+    ensures misses { MatchResult result (λ _. F.misses files.new ≡ F.misses files.old)
+        (CountsMissing (F.misses files.old) (F.misses files.new)) }
+    ensures write_faults { F.write_faults files.new ≡ F.write_faults files.old }
+    ensures out_faults { MatchResult result (λ _. O.faults out.new ≡ O.faults out.old)
+        (CountsWriteFault (O.faults out.old) (O.faults out.new)) }
+{
     let mps = read_mps(alloc, files, words.mps)?;
     let aux = read_aux(alloc, files, words.aux, &mps)?;
-    let model = build(alloc, &mps, &aux)?;
-    if !is_walkable(&model) {
-        return Err(Failure::NotYet(words.mps));
-    }
-    let found = plain_best(alloc, &model)?;
-    report(alloc, out, mps.columns.as_slice(), &model, &found)
+    let report = solve_model(alloc, words.mps, &mps, &aux)?;
+    out.put(&report.text)?;
+    Ok(report.answer)
 }
 
+// Reads the model, where the file has it.
 fn read_mps<'a, F: Shelf>(
     alloc: Global,
     files: &mut F,
     name: &'a str,
 ) -> Result<RawMps, Failure<'a>>
-    ensures { IfOk result KeepsLimits }
+    ensures limits { IfOk result KeepsLimits }
+    ensures read { IfOk result (λ mps. IfTold (F.contents files.old) (MpsReads name.now mps)) }
+    ensures failed { IfErr result (λ failure. IfTold (F.contents files.old) (MpsFails name.now failure)) }
+    ensures named { IfErr result (IsOfReading name.now) }
+
+    ensures files { F.contents files.new ≡ F.contents files.old }
+    ensures read_faults { MatchResult result (λ _. F.read_faults files.new ≡ F.read_faults files.old)
+        (CountsReadFault (F.read_faults files.old) (F.read_faults files.new)) }
+    ensures misses { MatchResult result (λ _. F.misses files.new ≡ F.misses files.old)
+        (CountsMissing (F.misses files.old) (F.misses files.new)) }
+    ensures write_faults { F.write_faults files.new ≡ F.write_faults files.old }
 {
     let text = read_file(alloc, files, name)?;
-    read_first(alloc, &text)?.ok_or(Failure::NotYet(name))
+    match read_first(alloc, &text)? {
+        Some(mps) => Ok(mps),
+        None => Err(Failure::NotYet(name)),
+    }
 }
 
+// Reads the follower of the model, where the file has one.
 fn read_aux<'a, F: Shelf>(
     alloc: Global,
     files: &mut F,
@@ -58,19 +96,45 @@ fn read_aux<'a, F: Shelf>(
     mps: &RawMps,
 ) -> Result<RawAux, Failure<'a>>
     requires { KeepsLimits mps.now }
-    ensures { IfOk result (FitsModel (length mps.now.columns) (length mps.now.rows)) }
+    ensures fits { IfOk result (FitsModel (length mps.now.columns) (length mps.now.rows)) }
+    ensures read { IfOk result (λ aux. IfTold (F.contents files.old) (AuxReads name.now mps.now aux)) }
+    ensures failed { IfErr result (λ failure. IfTold (F.contents files.old) (AuxFails name.now mps.now failure)) }
+    ensures named { IfErr result (IsOfReading name.now) }
+
+    ensures files { F.contents files.new ≡ F.contents files.old }
+    ensures read_faults { MatchResult result (λ _. F.read_faults files.new ≡ F.read_faults files.old)
+        (CountsReadFault (F.read_faults files.old) (F.read_faults files.new)) }
+    ensures misses { MatchResult result (λ _. F.misses files.new ≡ F.misses files.old)
+        (CountsMissing (F.misses files.old) (F.misses files.new)) }
+    ensures write_faults { F.write_faults files.new ≡ F.write_faults files.old }
 {
     let text = read_file(alloc, files, name)?;
     let column_count = mps.columns.as_slice().len();
     let row_count = mps.rows.as_slice().len();
-    read_aux_first(alloc, &text, column_count, row_count)?.ok_or(Failure::NotYet(name))
+    match read_aux_first(alloc, &text, column_count, row_count)? {
+        Some(aux) => Ok(aux),
+        None => Err(Failure::NotYet(name)),
+    }
 }
 
+// Reads the whole file, where it isn't too long.
 fn read_file<'a, F: Shelf>(
     alloc: Global,
     files: &mut F,
     name: &'a str,
-) -> Result<Vec<u8>, Failure<'a>> {
+) -> Result<Vec<u8>, Failure<'a>>
+    ensures read { IfOk result (λ text. IfTold (F.contents files.old) (λ told. Holds told name.now text.items)) }
+    ensures short { IfOk result (λ text. vec_len text ≤ 16777216) }
+    ensures failed { IfErr result (λ failure. IfTold (F.contents files.old) (FileFails name.now failure)) }
+    ensures named { IfErr result (IsOfReading name.now) }
+
+    ensures files { F.contents files.new ≡ F.contents files.old }
+    ensures read_faults { MatchResult result (λ _. F.read_faults files.new ≡ F.read_faults files.old)
+        (CountsReadFault (F.read_faults files.old) (F.read_faults files.new)) }
+    ensures misses { MatchResult result (λ _. F.misses files.new ≡ F.misses files.old)
+        (CountsMissing (F.misses files.old) (F.misses files.new)) }
+    ensures write_faults { F.write_faults files.new ≡ F.write_faults files.old }
+{
     let mut text = Vec::new(alloc);
     match read_text(files, name, TEXT_LIMIT, &mut text) {
         Ok(Got::Whole) => Ok(text),
@@ -79,6 +143,27 @@ fn read_file<'a, F: Shelf>(
         Err(ReadFail::Failed) => Err(Failure::ReadFault(name)),
         Err(ReadFail::Memory) => Err(Failure::Memory),
     }
+}
+
+// Builds the program, walks it, and writes the report.
+fn solve_model<'a>(
+    alloc: Global,
+    name: &'a str,
+    mps: &RawMps,
+    aux: &RawAux,
+) -> Result<Report, Failure<'a>>
+    requires mps { KeepsLimits mps.now }
+    requires aux { FitsModel (length mps.now.columns) (length mps.now.rows) aux.now }
+    ensures walkable { IfOk result (λ _. IsWalkable mps.now aux.now) }
+    ensures report { IfOk result (λ report. Says mps.now.columns (program_of mps.now aux.now) report.answer report.text.items) }
+    ensures failed { IfErr result (ModelFails name.now mps.now aux.now) }
+{
+    let model = build(alloc, mps, aux)?;
+    if !is_walkable(&model) {
+        return Err(Failure::NotYet(name));
+    }
+    let found = plain_best(alloc, &model)?;
+    Ok(report_of(alloc, mps.columns.as_slice(), &model, &found)?)
 }
 
 // How many numbers a column's range has.
@@ -115,23 +200,26 @@ fn follower_value(model: &Bilevel, point: &[i64]) -> i64
     model.follower_of(point) * model.sense()
 }
 
-// Prints the report of what was found.
-fn report<'a, O: Sink>(
+// The report of what was found.
+fn report_of(
     alloc: Global,
-    out: &mut O,
     columns: &[RawColumn],
     model: &Bilevel,
     found: &Option<Optimum>,
-) -> Result<Status, Failure<'a>>
+) -> Result<Report, AllocError>
     requires columns { length columns.now ≡ column_count model.now }
     requires answer { IsAnswer model.now found.now }
+    ensures { IfOk result (λ report. Says columns.now model.now report.answer report.text.items) }
 {
     let Some(best) = found else {
-        out.put(INFEASIBLE)?;
-        return Ok(Status(1));
+        return Ok(Report {
+            answer: Answer::Infeasible,
+            text: Vec::from_slice(alloc, INFEASIBLE)?,
+        });
     };
     let follower = follower_value(model, &best.point);
-    let text = optimal_report(alloc, columns, &best.point, best.value, follower)?;
-    out.put(&text)?;
-    Ok(Status(0))
+    Ok(Report {
+        answer: Answer::Optimal,
+        text: optimal_report(alloc, columns, &best.point, best.value, follower)?,
+    })
 }

@@ -1,5 +1,10 @@
 //! How the program ends.
 
+ghost use Rattle.std.specs.Prelude.{◌≡◌, ◌++◌, OnOk, OnErr};
+ghost use Rattle.bl_outer.specs.Count.{HasCause};
+ghost use Rattle.bl_outer.specs.Files.{Told};
+ghost use Rattle.bl_outer.specs.Sink.{Adds, AddsPrefix};
+
 use bl_outer::{Sink, SinkFail};
 use std::alloc::AllocError;
 
@@ -17,6 +22,27 @@ use std::alloc::AllocError;
 /// | 10 | a file is missing |
 #[derive(Clone, Copy, Debug, PartialEq, Eq)]
 pub struct Status(pub u8);
+
+/// What a command answers, as its report says.
+#[derive(Clone, Copy, Debug)]
+pub(crate) enum Answer {
+    Optimal,
+    Infeasible,
+}
+
+impl Answer {
+    ghost use Rattle.std.specs.Prelude.{◌≡◌};
+    ghost use Rattle.bl_run.specs.Endings.{answer_status};
+
+    pub(crate) fn status(self) -> Status
+        ensures { result.0 ≡ answer_status self }
+    {
+        Status(match self {
+            Answer::Optimal => 0,
+            Answer::Infeasible => 1,
+        })
+    }
+}
 
 /// Why a command has no answer. A text that has one names its file.
 #[derive(Clone, Copy, Debug)]
@@ -52,7 +78,15 @@ impl From<SinkFail> for Failure<'_> {
 }
 
 impl Failure<'_> {
-    pub(crate) fn status(self) -> Status {
+    ghost use Rattle.std.specs.Prelude.{◌≡◌, OnOk, OnErr};
+    ghost use Rattle.bl_outer.specs.Count.{HasCause};
+    ghost use Rattle.bl_outer.specs.Files.{Told};
+    ghost use Rattle.bl_outer.specs.Sink.{Adds, AddsPrefix};
+    ghost use Rattle.bl_run.specs.Endings.{failure_status, failure_line};
+
+    pub(crate) fn status(self) -> Status
+        ensures { result.0 ≡ failure_status self.entry }
+    {
         Status(match self {
             Failure::Words => 2,
             Failure::NotYet(_) => 3,
@@ -64,7 +98,11 @@ impl Failure<'_> {
     }
 
     /// Prints the line on the failure. It stops at the first piece that isn't taken.
-    pub(crate) fn tell<E: Sink>(self, err: &mut E) -> Result<(), SinkFail> {
+    pub(crate) fn tell<E: Sink>(self, err: &mut E) -> Result<(), SinkFail>
+        ensures ok { OnOk result (Told (Adds (failure_line self.entry)) (E.bytes err.old) (E.bytes err.new)) }
+        ensures err { OnErr result (Told (AddsPrefix (failure_line self.entry)) (E.bytes err.old) (E.bytes err.new)) }
+        ensures cause { HasCause (E.faults err.old) (E.faults err.new) result }
+    {
         match self {
             Failure::Words => err.put(b"mibs: words not understood\n"),
             Failure::NotYet(file) => tell_of(err, b"mibs: ", file, b": NotYet\n"),
@@ -76,7 +114,11 @@ impl Failure<'_> {
     }
 }
 
-fn tell_of<E: Sink>(err: &mut E, before: &[u8], file: &str, after: &[u8]) -> Result<(), SinkFail> {
+fn tell_of<E: Sink>(err: &mut E, before: &[u8], file: &str, after: &[u8]) -> Result<(), SinkFail>
+    ensures ok { OnOk result (Told (Adds (before.now ++ (file.now ++ after.now))) (E.bytes err.old) (E.bytes err.new)) }
+    ensures err { OnErr result (Told (AddsPrefix (before.now ++ (file.now ++ after.now))) (E.bytes err.old) (E.bytes err.new)) }
+    ensures cause { HasCause (E.faults err.old) (E.faults err.new) result }
+{
     err.put(before)?;
     err.put(file.as_bytes())?;
     err.put(after)

@@ -1,7 +1,7 @@
 //! The top calls.
 
 use crate::solve::solve;
-use crate::status::{Failure, Status};
+use crate::status::{Answer, Failure, Status};
 use crate::words::solve_words;
 use bl_outer::{Gate, Shelf, Sink};
 use std::alloc::Global;
@@ -31,7 +31,7 @@ pub fn run_alone<F: Shelf, O: Sink, E: Sink>(
     err: &mut E,
 ) -> Status {
     match command(alloc, words, files, out) {
-        Ok(status) => status,
+        Ok(answer) => answer.status(),
         Err(failure) => {
             let _ = failure.tell(err);
             failure.status()
@@ -44,7 +44,7 @@ fn command<'a, F: Shelf, O: Sink>(
     words: &'a [String],
     files: &mut F,
     out: &mut O,
-) -> Result<Status, Failure<'a>> {
+) -> Result<Answer, Failure<'a>> {
     let words = solve_words(words).ok_or(Failure::Words)?;
     solve(alloc, words, files, out)
 }
