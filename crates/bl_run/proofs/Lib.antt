@@ -1,4 +1,5 @@
 pub mod AuxLemmas
 pub mod CauseLemmas
 pub mod EndingLemmas
+pub mod RunLemmas
 pub mod SolveLemmas

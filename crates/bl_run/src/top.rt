@@ -1,5 +1,12 @@
 //! The top calls.
 
+ghost use Rattle.std.specs.Prelude.{◌≡◌, ◌≢◌, ◌↔◌, ℕ, List, [], ◌∷◌, ◌<◌, ◌≤◌, map, string_bytes, IfOk, IfErr, MatchResult};
+ghost use Rattle.bl_outer.specs.Files.{IfTold};
+ghost use Rattle.bl_run.specs.Endings.{CountsReadFault, CountsMissing, CountsWriteFault};
+ghost use Rattle.bl_run.specs.Solve.{Prints, LeavesOut};
+ghost use Rattle.bl_run.specs.Run.{NameFiles, AreRefused, IsOneOf, line_at, Tells, RisesAt, IsCause, GivesStatus, CommandFails};
+ghost use Rattle.bl_run.specs.declared.status.Answer.TheVariants as answer;
+
 use crate::solve::solve;
 use crate::status::{Answer, Failure, Status};
 use crate::words::solve_words;
@@ -18,7 +25,31 @@ pub fn run<R: Threads + Wait + Sync, F: Shelf, O: Sink, E: Sink, G: Gate + Sync>
     out: &mut O,
     err: &mut E,
     _gate: &G,
-) -> Status {
+) -> Status
+    ensures statuses { IsOneOf (0 ∷ 1 ∷ 2 ∷ 3 ∷ 6 ∷ 7 ∷ 8 ∷ 10 ∷ []) result.0 }
+    // what each status means
+    ensures optimal { result.0 ≡ 0 → NameFiles (map string_bytes words.now) (λ mps aux.
+        Prints answer.Optimal (F.contents files.old) mps aux (O.bytes out.old) (O.bytes out.new)) }
+    ensures infeasible { result.0 ≡ 1 → NameFiles (map string_bytes words.now) (λ mps aux.
+        Prints answer.Infeasible (F.contents files.old) mps aux (O.bytes out.old) (O.bytes out.new)) }
+    ensures refused { (result.0 ≡ 2) ↔ AreRefused (map string_bytes words.now) }
+    ensures failed { 2 ≤ result.0 → ((file : List ℕ)
+        × IsCause (map string_bytes words.now) (F.contents files.old) (O.bytes out.old) (O.bytes out.new) file result.0
+        × Tells (line_at result.0 file) (E.bytes err.old) (E.bytes err.new) (E.faults err.old) (E.faults err.new)) }
+    ensures exact { IfTold (F.contents files.old) (GivesStatus (map string_bytes words.now) result.0) }
+
+    // the causes that are counted
+    ensures read_faults { RisesAt 6 result.0 (F.read_faults files.old) (F.read_faults files.new) }
+    ensures out_faults { RisesAt 7 result.0 (O.faults out.old) (O.faults out.new) }
+    ensures misses { RisesAt 10 result.0 (F.misses files.old) (F.misses files.new) }
+
+    // what stays
+    ensures files { F.contents files.new ≡ F.contents files.old }
+    ensures write_faults { F.write_faults files.new ≡ F.write_faults files.old }
+    ensures out { result.0 ≢ 0 → result.0 ≢ 1 → result.0 ≢ 7 → O.bytes out.new ≡ O.bytes out.old }
+    ensures err { result.0 < 2 → E.bytes err.new ≡ E.bytes err.old }
+    ensures err_faults { result.0 < 2 → E.faults err.new ≡ E.faults err.old }
+{
     run_alone(alloc, words, files, out, err)
 }
 
@@ -29,7 +60,31 @@ pub fn run_alone<F: Shelf, O: Sink, E: Sink>(
     files: &mut F,
     out: &mut O,
     err: &mut E,
-) -> Status {
+) -> Status
+    ensures statuses { IsOneOf (0 ∷ 1 ∷ 2 ∷ 3 ∷ 6 ∷ 7 ∷ 8 ∷ 10 ∷ []) result.0 }
+    // what each status means
+    ensures optimal { result.0 ≡ 0 → NameFiles (map string_bytes words.now) (λ mps aux.
+        Prints answer.Optimal (F.contents files.old) mps aux (O.bytes out.old) (O.bytes out.new)) }
+    ensures infeasible { result.0 ≡ 1 → NameFiles (map string_bytes words.now) (λ mps aux.
+        Prints answer.Infeasible (F.contents files.old) mps aux (O.bytes out.old) (O.bytes out.new)) }
+    ensures refused { (result.0 ≡ 2) ↔ AreRefused (map string_bytes words.now) }
+    ensures failed { 2 ≤ result.0 → ((file : List ℕ)
+        × IsCause (map string_bytes words.now) (F.contents files.old) (O.bytes out.old) (O.bytes out.new) file result.0
+        × Tells (line_at result.0 file) (E.bytes err.old) (E.bytes err.new) (E.faults err.old) (E.faults err.new)) }
+    ensures exact { IfTold (F.contents files.old) (GivesStatus (map string_bytes words.now) result.0) }
+
+    // the causes that are counted
+    ensures read_faults { RisesAt 6 result.0 (F.read_faults files.old) (F.read_faults files.new) }
+    ensures out_faults { RisesAt 7 result.0 (O.faults out.old) (O.faults out.new) }
+    ensures misses { RisesAt 10 result.0 (F.misses files.old) (F.misses files.new) }
+
+    // what stays
+    ensures files { F.contents files.new ≡ F.contents files.old }
+    ensures write_faults { F.write_faults files.new ≡ F.write_faults files.old }
+    ensures out { result.0 ≢ 0 → result.0 ≢ 1 → result.0 ≢ 7 → O.bytes out.new ≡ O.bytes out.old }
+    ensures err { result.0 < 2 → E.bytes err.new ≡ E.bytes err.old }
+    ensures err_faults { result.0 < 2 → E.faults err.new ≡ E.faults err.old }
+{
     match command(alloc, words, files, out) {
         Ok(answer) => answer.status(),
         Err(failure) => {
@@ -44,7 +99,22 @@ fn command<'a, F: Shelf, O: Sink>(
     words: &'a [String],
     files: &mut F,
     out: &mut O,
-) -> Result<Answer, Failure<'a>> {
+) -> Result<Answer, Failure<'a>>
+    ensures printed { IfOk result (λ answer. NameFiles (map string_bytes words.now) (λ mps aux.
+        Prints answer (F.contents files.old) mps aux (O.bytes out.old) (O.bytes out.new))) }
+    ensures failed { IfErr result (CommandFails (map string_bytes words.now) (F.contents files.old)
+        (O.bytes out.old) (O.bytes out.new)) }
+    ensures out { IfErr result (LeavesOut (O.bytes out.old) (O.bytes out.new)) }
+
+    ensures files { F.contents files.new ≡ F.contents files.old }
+    ensures read_faults { MatchResult result (λ _. F.read_faults files.new ≡ F.read_faults files.old)
+        (CountsReadFault (F.read_faults files.old) (F.read_faults files.new)) }
+    ensures misses { MatchResult result (λ _. F.misses files.new ≡ F.misses files.old)
+        (CountsMissing (F.misses files.old) (F.misses files.new)) }
+    ensures write_faults { F.write_faults files.new ≡ F.write_faults files.old }
+    ensures out_faults { MatchResult result (λ _. O.faults out.new ≡ O.faults out.old)
+        (CountsWriteFault (O.faults out.old) (O.faults out.new)) }
+{
     let words = solve_words(words).ok_or(Failure::Words)?;
     solve(alloc, words, files, out)
 }
