@@ -6,3 +6,5 @@ pub mod Takes
 pub mod ShortValues
 pub mod RowLaws
 pub mod PairLaws
+pub mod SideLaws
+pub mod ColumnLaws

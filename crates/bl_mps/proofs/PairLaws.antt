@@ -101,7 +101,7 @@ number-push_other : (name : Bytes) (pairs : List (Bytes × Bytes)) (last : Bytes
 number-push_other name [] last other = rw other refl
 number-push_other name (pair ∷ pairs) last other = other-step name pair pairs last (bytes_eq name pair.0) refl (number-push_other name pairs last other)
 
-distinct-places : (names : List Bytes) → AreDistinct names → (i j : ℕ) → i < length names → j < length names → i ≢ j → get_or names i [] ≡ get_or names j [] → ⊥
+pub distinct-places : (names : List Bytes) → AreDistinct names → (i j : ℕ) → i < length names → j < length names → i ≢ j → get_or names i [] ≡ get_or names j [] → ⊥
 distinct-places names distinct i j lt-i lt-j other e =
     elim (cases_lt i j) [
       | inl lt ↦ distinct i j [] lt lt-j e

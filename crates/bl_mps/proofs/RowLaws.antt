@@ -50,7 +50,7 @@ name-some name other e = name-by name other (bytes_eq name (codes "'MARKER'")) r
 name-plain : (name : Bytes) → name ≢ codes "'MARKER'" → row_name name ≡ Some name
 name-plain name h = rw (differ-false name (codes "'MARKER'") h) refl
 
-added-some : (most : ℕ) (names : List Bytes) (name : Bytes) (more : List Bytes) → added most names name ≡ Some more → (length names < most) × (is_named names name ≡ false) × (more ≡ names ++ name ∷ [])
+pub added-some : (most : ℕ) (names : List Bytes) (name : Bytes) (more : List Bytes) → added most names name ≡ Some more → (length names < most) × (is_named names name ≡ false) × (more ≡ names ++ name ∷ [])
 added-some most names name more e = added-by (ltb (length names) most) (position (bytes_eq name) names) refl refl e
   where
   added-by : (room : Bool) (place : Option ℕ) → ltb (length names) most ≡ room → position (bytes_eq name) names ≡ place → cond (room && is_none place) (Some (names ++ name ∷ [])) None ≡ Some more → (length names < most) × (is_named names name ≡ false) × (more ≡ names ++ name ∷ [])
@@ -58,7 +58,7 @@ added-some most names name more e = added-by (ltb (length names) most) (position
   added-by true (Some i) r p e = absurd cc
   added-by false place r p e = absurd cc
 
-added-fresh : (most : ℕ) (names : List Bytes) (name : Bytes) → length names < most → is_named names name ≡ false → added most names name ≡ Some (names ++ name ∷ [])
+pub added-fresh : (most : ℕ) (names : List Bytes) (name : Bytes) → length names < most → is_named names name ≡ false → added most names name ≡ Some (names ++ name ∷ [])
 added-fresh most names name lt fresh = fresh-by (position (bytes_eq name) names) refl
   where
   fresh-by : (place : Option ℕ) → position (bytes_eq name) names ≡ place → added most names name ≡ Some (names ++ name ∷ [])
