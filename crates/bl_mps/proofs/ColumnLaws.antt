@@ -1,5 +1,5 @@
 -- The columns that are read are those of the first form, and no others.
-use Rattle.std.proofs.Common.{◌≡◌, ◌≢◌, ℕ, zero, suc, ◌+◌, ◌-◌, ◌<◌, ◌≤◌, Bool, true, false, cond, ◌||◌, ◌&&◌, eqb, ltb, List, [], ◌∷◌, ◌++◌, length, get_or, set, take, map, filter, fold, position, replicate, Option, Some, None, is_some, is_none, ℤ, refl, sym, ap, subst, ◌∙◌, append_assoc, arith, inl, inr, ◌⊎◌}
+use Rattle.std.proofs.Common.{◌≡◌, ◌≢◌, ℕ, zero, suc, ◌+◌, ◌-◌, ◌<◌, ◌≤◌, Bool, true, false, cond, ◌||◌, ◌&&◌, eqb, ltb, List, [], ◌∷◌, ◌++◌, length, get_or, set, take, map, filter, fold, position, replicate, Option, Some, None, is_some, is_none, ℤ, refl, sym, ap, subst, ◌∙◌, append_assoc, arith, inl, inr, ◌⊎◌, codes}
 use Rattle.std.specs.List.{AllByRecursion, flat_map}
 use Rattle.std.specs.Str.{bytes_eq}
 use Rattle.std.proofs.lemmas.List.{append-nil, map-append, map_push, length-append, length-map, length-set, length_push, get_or-map, get_or_append_left, get_or_push, get_or-set_same, get_or-set_other, ext_get_or, take-append-le, take_all, take_at, get_or_at}
@@ -397,3 +397,104 @@ columns-goes rows distinct lines columns line more h good =
     let numbers = pairs-complete rows 10000000 (pairs_on (field 0 line) lines) (pairs_of_column line) distinct entries once in
     let enters = last-is rows begins.0 (pairs_of_column line) numbers.0 (ap (λ (ns : List (Option ℤ)). taken_up (entered rows 10000000) ns (pairs_of_column line)) (begun-last rows lines (field 0 line) begins.0 b) ∙ numbers.1) in
     (record { names = begins.0.names; numbers = set begins.0.numbers (length begins.0.numbers - 1) numbers.0 }, column-line rows columns (record { names = begins.0.names; numbers = set begins.0.numbers (length begins.0.numbers - 1) numbers.0 }) line begins.0 shape begun-eq enters)
+
+-- ---- between the marker lines
+
+marker-three : (word : Bytes) (n a b : Bytes) → is_marker word (n ∷ a ∷ b ∷ []) ≡ true → b ≡ word
+marker-three word n a b e = same-from b word (and-right (bytes_eq a (codes "'MARKER'")) (bytes_eq b word) e)
+  where
+  and-right : (x y : Bool) → (x && y) ≡ true → y ≡ true
+  and-right true y e = e
+  and-right false y e = absurd (false≢true e)
+
+bool-false : (b : Bool) → (b ≡ true → ⊥) → b ≡ false
+bool-false true h = absurd (h refl)
+bool-false false h = refl
+
+-- a line of a column isn't the last marker line
+not-end : (rows : List Bytes) (most : ℕ) (line : List Bytes) → HasPairs line → AllByRecursion (IsEntry rows most) (pairs_of_column line) → is_marker (codes "'INTEND'") line ≡ false
+not-end rows most [] shape entries = refl
+not-end rows most (n ∷ []) shape entries = refl
+not-end rows most (n ∷ a ∷ []) shape entries = refl
+not-end rows most (n ∷ a ∷ b ∷ []) shape entries =
+    bool-false (is_marker (codes "'INTEND'") (n ∷ a ∷ b ∷ [])) (λ e.
+      let word = marker-three (codes "'INTEND'") n a b e in
+      false≢true (ap (λ (number : Bytes). is_some (number_within most number)) (sym word) ∙ entries.0.1))
+not-end rows most (n ∷ a ∷ b ∷ c ∷ more) shape entries = refl
+
+-- what is known of the lines up to the last marker line
+record AreEnded (rows : List Bytes) (front lines : List (List Bytes)) (columns : ColumnList) : Type 0 where
+  middle : List (List Bytes)
+  last : List Bytes
+  parts : lines ≡ middle ++ last ∷ []
+  ends : is_marker (codes "'INTEND'") last ≡ true
+  columns_are : AreColumns rows (front ++ middle) columns
+
+ended-by : (rows : List Bytes) (front : List (List Bytes)) (line : List Bytes) (lines : List (List Bytes)) (columns next : ColumnList) (test empty : Bool) → AreColumns rows front columns → is_marker (codes "'INTEND'") line ≡ true → eqb (length lines) 0 ≡ empty → cond empty (Some columns) None ≡ Some next → AreEnded rows front (line ∷ lines) next
+ended-by rows front line [] columns next test true h m e s =
+    let same : columns ≡ next = cc in
+    record { middle = []; last = line; parts = refl; ends = m; columns_are = subst (λ (ls : List (List Bytes)). AreColumns rows ls next) (sym (append-nil front)) (subst (AreColumns rows front) same h) }
+ended-by rows front line (other ∷ lines) columns next test true h m e s = absurd (omega (arith, eqb-true _ _ e))
+ended-by rows front line lines columns next test false h m e s = absurd cc
+
+from-step : (rows : List Bytes) → AreDistinct rows → (front : List (List Bytes)) (line : List Bytes) (lines : List (List Bytes)) (columns next : ColumnList) (test : Bool) → is_marker (codes "'INTEND'") line ≡ test → AreColumns rows front columns → cond test (cond (eqb (length lines) 0) (Some columns) None) (column_taken_up rows columns line >>= λ c. columns_from rows c lines) ≡ Some next → ((c : ColumnList) → column_taken_up rows columns line ≡ Some c → columns_from rows c lines ≡ Some next → AreEnded rows (front ++ line ∷ []) lines next) → AreEnded rows front (line ∷ lines) next
+from-step rows distinct front line lines columns next true m h e more = ended-by rows front line lines columns next true (eqb (length lines) 0) h m refl e
+from-step rows distinct front line lines columns next false m h e more =
+    let c = bind_some (column_taken_up rows columns line) (λ c. columns_from rows c lines) next e in
+    let rest = more c.0 c.1 c.2 in
+    record { middle = line ∷ rest.middle; last = rest.last; parts = ap (λ (ls : List (List Bytes)). line ∷ ls) rest.parts; ends = rest.ends; columns_are = subst (λ (ls : List (List Bytes)). AreColumns rows ls next) (append_assoc front (line ∷ []) rest.middle) rest.columns_are }
+from-sound : (rows : List Bytes) → AreDistinct rows → (front lines : List (List Bytes)) (columns next : ColumnList) → AreColumns rows front columns → columns_from rows columns lines ≡ Some next → AreEnded rows front lines next
+unfolding columns_from
+from-sound rows distinct front [] columns next h e = absurd cc
+from-sound rows distinct front (line ∷ lines) columns next h e =
+    from-step rows distinct front line lines columns next (is_marker (codes "'INTEND'") line) refl h e
+      (λ c took rest. from-sound rows distinct (front ++ line ∷ []) lines c next (columns-more rows distinct front columns line c h took) rest)
+
+end-is : (rows : List Bytes) (columns : ColumnList) (last : List Bytes) → is_marker (codes "'INTEND'") last ≡ true → columns_from rows columns (last ∷ []) ≡ Some columns
+unfolding columns_from
+end-is rows columns last m = rw m refl
+
+middle-is : (rows : List Bytes) (columns next out : ColumnList) (line : List Bytes) (lines : List (List Bytes)) → is_marker (codes "'INTEND'") line ≡ false → column_taken_up rows columns line ≡ Some next → columns_from rows next lines ≡ Some out → columns_from rows columns (line ∷ lines) ≡ Some out
+unfolding columns_from
+middle-is rows columns next out line lines m took rest = rw (m, took) rest
+
+from-complete : (rows : List Bytes) → AreDistinct rows → (front middle : List (List Bytes)) (last : List Bytes) (columns : ColumnList) → AreColumns rows front columns → AreColumnLines rows (front ++ middle) → is_marker (codes "'INTEND'") last ≡ true → (next : ColumnList) × (columns_from rows columns (middle ++ last ∷ []) ≡ Some next)
+from-complete rows distinct front [] last columns h good m = (columns, end-is rows columns last m)
+from-complete rows distinct front (line ∷ middle) last columns h good m =
+    let next = columns-goes rows distinct front columns line middle h good in
+    let more = columns-more rows distinct front columns line next.0 h next.1 in
+    let rest = from-complete rows distinct (front ++ line ∷ []) middle last next.0 more (subst (AreColumnLines rows) (sym (append_assoc front (line ∷ []) middle)) good) m in
+    let split : all_pairs (front ++ line ∷ middle) ≡ (all_pairs front ++ pairs_of_column line) ++ all_pairs middle = flat_map-append pairs_of_column front (line ∷ middle) ∙ sym (append_assoc (all_pairs front) (pairs_of_column line) (all_pairs middle)) in
+    let entries = all-back (IsEntry rows 10000000) (all_pairs front) (pairs_of_column line) (all-front (IsEntry rows 10000000) (all_pairs front ++ pairs_of_column line) (all_pairs middle) (subst (AllByRecursion (IsEntry rows 10000000)) split good.entries)) in
+    let plain = not-end rows 10000000 line (all-back HasPairs front (line ∷ middle) good.fields).0 entries in
+    (rest.0, middle-is rows columns next.0 rest.0 line (middle ++ last ∷ []) plain next.1 rest.1)
+
+-- the columns that are read of the lines under COLUMNS
+pub record ColumnsRead (rows : List Bytes) (lines : List (List Bytes)) (columns : ColumnList) : Type 0 where
+  pub good : AreFirstColumns rows lines
+  pub names : columns.names ≡ appeared (keys good.lines)
+  pub numbers : columns.numbers ≡ map (column_numbers rows good.lines) columns.names
+
+columns-by : (rows : List Bytes) → AreDistinct rows → (first : List Bytes) (lines : List (List Bytes)) (columns : ColumnList) (test : Bool) → is_marker (codes "'INTORG'") first ≡ test → cond test (columns_from rows (record { names = []; numbers = [] }) lines) None ≡ Some columns → ColumnsRead rows (first ∷ lines) columns
+columns-by rows distinct first lines columns true m e =
+    let ended = from-sound rows distinct [] lines (record { names = []; numbers = [] }) columns (columns-start rows) e in
+    record {
+      good = record { first = first; lines = ended.middle; last = ended.last; parts = ap (λ (ls : List (List Bytes)). first ∷ ls) ended.parts; begins = m; ends = ended.ends; between = ended.columns_are.good };
+      names = ended.columns_are.names;
+      numbers = ended.columns_are.numbers;
+    }
+columns-by rows distinct first lines columns false m e = absurd cc
+
+pub columns_in-sound : (rows : List Bytes) (lines : List (List Bytes)) (columns : ColumnList) → AreDistinct rows → columns_in rows lines ≡ Some columns → ColumnsRead rows lines columns
+unfolding columns_in
+columns_in-sound rows [] columns distinct e = absurd cc
+columns_in-sound rows (first ∷ lines) columns distinct e = columns-by rows distinct first lines columns (is_marker (codes "'INTORG'") first) refl e
+
+begin-is : (rows : List Bytes) (first : List Bytes) (lines : List (List Bytes)) (columns : ColumnList) → is_marker (codes "'INTORG'") first ≡ true → columns_from rows (record { names = []; numbers = [] }) lines ≡ Some columns → columns_in rows (first ∷ lines) ≡ Some columns
+unfolding columns_in
+begin-is rows first lines columns m e = rw m e
+
+pub columns_in-complete : (rows : List Bytes) (lines : List (List Bytes)) → AreDistinct rows → AreFirstColumns rows lines → (columns : ColumnList) × (columns_in rows lines ≡ Some columns)
+columns_in-complete rows lines distinct good =
+    let from = from-complete rows distinct [] good.lines good.last (record { names = []; numbers = [] }) (columns-start rows) good.between good.ends in
+    (from.0, ap (columns_in rows) good.parts ∙ begin-is rows good.first (good.lines ++ good.last ∷ []) from.0 good.begins from.1)

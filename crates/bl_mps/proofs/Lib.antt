@@ -8,3 +8,5 @@ pub mod RowLaws
 pub mod PairLaws
 pub mod SideLaws
 pub mod ColumnLaws
+pub mod BoundLaws
+pub mod SectionLaws
