@@ -276,3 +276,151 @@ sections_in-sound text out e =
     let from-rows = heading-then 82 (codes "OWS") name.0 rows.0 (all_fields out.rows) (from_columns out) refl rows.1 (rows-say rows.0 out rows.2) in
     let all = heading-then 78 (codes "AME") (lines_of text) name.0 [] (section (codes "ROWS") (all_fields out.rows) ∷ from_columns out) refl name.1 from-rows in
     record { full = all.full; parts = parts-eq (parts_of (lines_of text)) [] (section (codes "NAME") [] ∷ section (codes "ROWS") (all_fields out.rows) ∷ from_columns out) all.before_is all.sections_are }
+
+-- ---- what the first form says lets each step be taken
+
+head-is : {A : Type 0} (x y : A) (xs ys : List A) → x ∷ xs ≡ y ∷ ys → (x ≡ y) × (xs ≡ ys)
+head-is x y xs ys e = (cc, cc)
+
+some-fields : (line : Bytes) → is_skipped line ≡ false → eqb (length (fields_of line)) 0 ≡ false
+some-fields line e = (or-false (is_comment line) (eqb (length (fields_of line)) 0) e).1
+
+first-is-field : (word : Bytes) (fields : List Bytes) → eqb (length fields) 0 ≡ false → field 0 fields ≡ word → first_is word fields ≡ true
+first-is-field word [] some at = absurd (false≢true (sym some))
+first-is-field word (f ∷ fields) some at = same-true f word at
+
+-- the section line that comes first, and what follows it
+record HasHeading (lines : List Bytes) (first : Section) (sections : List Section) : Type 0 where
+  rest : List Bytes
+  behind : behind_heading first.name lines ≡ Some rest
+  says : Says rest first.lines sections
+
+heading-found : (line : Bytes) (lines : List Bytes) (first : Section) (sections : List Section) (heads : Bool) → begins_section line ≡ heads → Says (line ∷ lines) [] (first ∷ sections) → HasHeading (line ∷ lines) first sections
+heading-found line lines first sections true h says =
+    let full = says.full.0 in
+    let parts = parts-heading line lines full h in
+    let here : Section = record { name = field 0 (fields_of line); lines = (parts_of lines).before } in
+    let both-are = head-is here first (parts_of lines).sections sections (sym (ap (λ (p : Parts). p.sections) parts) ∙ says.sections_are) in
+    let named : field 0 (fields_of line) ≡ first.name = ap (λ (s : Section). s.name) both-are.0 in
+    let heading : is_heading first.name line ≡ true = rw h (first-is-field first.name (fields_of line) (some-fields line full) named) in
+    record {
+      rest = lines;
+      behind = ap (λ (t : Bool). cond t (Some lines) None) heading;
+      says = record { before_is = ap (λ (s : Section). s.lines) both-are.0; sections_are = both-are.1; full = says.full.1 };
+    }
+heading-found line lines first sections false h says =
+    let parts = parts-data line lines says.full.0 h in
+    let none : fields_of line ∷ (parts_of lines).before ≡ [] = sym (ap (λ (p : Parts). p.before) parts) ∙ says.before_is in
+    absurd cc
+
+no-sections : (first : Section) (sections : List Section) → (parts_of []).sections ≡ first ∷ sections → ⊥
+unfolding parts_of
+no-sections first sections e = cc
+
+heading-from : (lines : List Bytes) (first : Section) (sections : List Section) → Says lines [] (first ∷ sections) → HasHeading lines first sections
+heading-from [] first sections says = absurd (no-sections first sections says.sections_are)
+heading-from (line ∷ lines) first sections says = heading-found line lines first sections (begins_section line) refl says
+
+-- the data lines that come first, and what follows them
+record HasData (lines : List Bytes) : Type 0 where
+  front : List Bytes
+  back : List Bytes
+  split : data_split lines ≡ Some (front, back)
+  before : all_fields front ≡ (parts_of lines).before
+  back_before : (parts_of back).before ≡ []
+  back_sections : (parts_of back).sections ≡ (parts_of lines).sections
+  full : AreFull back
+
+data-none : HasData []
+unfolding parts_of data_split
+data-none = record { front = []; back = []; split = refl; before = refl; back_before = refl; back_sections = refl; full = tt }
+
+data-found : (line : Bytes) (lines : List Bytes) (heads : Bool) → begins_section line ≡ heads → AreFull (line ∷ lines) → HasData lines → HasData (line ∷ lines)
+unfolding data_split
+data-found line lines true h full more =
+    let parts = parts-heading line lines full.0 h in
+    record { front = []; back = line ∷ lines; split = rw h refl; before = sym (ap (λ (p : Parts). p.before) parts); back_before = ap (λ (p : Parts). p.before) parts; back_sections = refl; full = full }
+data-found line lines false h full more =
+    let parts = parts-data line lines full.0 h in
+    record {
+      front = line ∷ more.front;
+      back = more.back;
+      split = rw (h, some-fields line full.0, more.split) refl;
+      before = ap (λ (fs : List (List Bytes)). fields_of line ∷ fs) more.before ∙ sym (ap (λ (p : Parts). p.before) parts);
+      back_before = more.back_before;
+      back_sections = more.back_sections ∙ sym (ap (λ (p : Parts). p.sections) parts);
+      full = more.full;
+    }
+
+data-of : (lines : List Bytes) → AreFull lines → HasData lines
+data-of [] full = data-none
+data-of (line ∷ lines) full = data-found line lines (begins_section line) refl full (data-of lines full.1)
+
+data-back : (lines : List Bytes) (before : List (List Bytes)) (sections : List Section) (says : Says lines before sections) (d : HasData lines) → Says d.back [] sections
+data-back lines before sections says d = record { before_is = d.back_before; sections_are = d.back_sections ∙ says.sections_are; full = d.full }
+
+nothing-left : (lines : List Bytes) → Says lines [] [] → lines ≡ []
+nothing-left [] says = refl
+nothing-left (line ∷ lines) says = absurd (something-by (begins_section line) refl)
+  where
+  something-by : (heads : Bool) → begins_section line ≡ heads → ⊥
+  something-by true h =
+      let parts = parts-heading line lines says.full.0 h in
+      let here : Section = record { name = field 0 (fields_of line); lines = (parts_of lines).before } in
+      let none : here ∷ (parts_of lines).sections ≡ [] = sym (ap (λ (p : Parts). p.sections) parts) ∙ says.sections_are in
+      cc
+  something-by false h =
+      let parts = parts-data line lines says.full.0 h in
+      let none : fields_of line ∷ (parts_of lines).before ≡ [] = sym (ap (λ (p : Parts). p.before) parts) ∙ says.before_is in
+      cc
+
+end-goes : (rows columns sides bounds lines : List Bytes) → Says lines [] [] → ends rows columns sides bounds lines ≡ Some (record { rows = rows; columns = columns; right_sides = sides; bounds = bounds })
+end-goes rows columns sides bounds lines says = rw (nothing-left lines says) refl
+
+-- what sections are read, where the first form has these
+record IsRead (read : Option SectionLines) : Type 0 where
+  out : SectionLines
+  is : read ≡ Some out
+
+bounds-go : (rows columns sides lines : List Bytes) (bounds : List (List Bytes)) → Says lines bounds (section (codes "ENDATA") [] ∷ []) → IsRead (at_bounds rows columns sides lines)
+bounds-go rows columns sides lines bounds says =
+    let d = data-of lines says.full in
+    let h = heading-from d.back (section (codes "ENDATA") []) [] (data-back lines bounds (section (codes "ENDATA") [] ∷ []) says d) in
+    record { out = record { rows = rows; columns = columns; right_sides = sides; bounds = d.front }; is = rw (d.split, h.behind) (end-goes rows columns sides d.front h.rest h.says) }
+
+sides-go : (rows columns lines : List Bytes) (sides bounds : List (List Bytes)) → Says lines sides (section (codes "BOUNDS") bounds ∷ section (codes "ENDATA") [] ∷ []) → IsRead (at_sides rows columns lines)
+sides-go rows columns lines sides bounds says =
+    let d = data-of lines says.full in
+    let h = heading-from d.back (section (codes "BOUNDS") bounds) (section (codes "ENDATA") [] ∷ []) (data-back lines sides (section (codes "BOUNDS") bounds ∷ section (codes "ENDATA") [] ∷ []) says d) in
+    let rest = bounds-go rows columns d.front h.rest bounds h.says in
+    record { out = rest.out; is = rw (d.split, h.behind) rest.is }
+
+columns-go : (rows lines : List Bytes) (columns sides bounds : List (List Bytes)) → Says lines columns (section (codes "RHS") sides ∷ section (codes "BOUNDS") bounds ∷ section (codes "ENDATA") [] ∷ []) → IsRead (at_columns rows lines)
+columns-go rows lines columns sides bounds says =
+    let after = section (codes "BOUNDS") bounds ∷ section (codes "ENDATA") [] ∷ [] in
+    let d = data-of lines says.full in
+    let h = heading-from d.back (section (codes "RHS") sides) after (data-back lines columns (section (codes "RHS") sides ∷ after) says d) in
+    let rest = sides-go rows d.front h.rest sides bounds h.says in
+    record { out = rest.out; is = rw (d.split, h.behind) rest.is }
+
+rows-go : (lines : List Bytes) (rows columns sides bounds : List (List Bytes)) → Says lines rows (section (codes "COLUMNS") columns ∷ section (codes "RHS") sides ∷ section (codes "BOUNDS") bounds ∷ section (codes "ENDATA") [] ∷ []) → IsRead (at_rows lines)
+rows-go lines rows columns sides bounds says =
+    let after = section (codes "RHS") sides ∷ section (codes "BOUNDS") bounds ∷ section (codes "ENDATA") [] ∷ [] in
+    let d = data-of lines says.full in
+    let h = heading-from d.back (section (codes "COLUMNS") columns) after (data-back lines rows (section (codes "COLUMNS") columns ∷ after) says d) in
+    let rest = columns-go d.front h.rest columns sides bounds h.says in
+    record { out = rest.out; is = rw (d.split, h.behind) rest.is }
+
+sections-go : (lines : List Bytes) (rows columns sides bounds : List (List Bytes)) → Says lines [] (section (codes "NAME") [] ∷ section (codes "ROWS") rows ∷ section (codes "COLUMNS") columns ∷ section (codes "RHS") sides ∷ section (codes "BOUNDS") bounds ∷ section (codes "ENDATA") [] ∷ []) → IsRead (sections_in lines)
+unfolding sections_in
+sections-go lines rows columns sides bounds says =
+    let after = section (codes "COLUMNS") columns ∷ section (codes "RHS") sides ∷ section (codes "BOUNDS") bounds ∷ section (codes "ENDATA") [] ∷ [] in
+    let name = heading-from lines (section (codes "NAME") []) (section (codes "ROWS") rows ∷ after) says in
+    let row = heading-from name.rest (section (codes "ROWS") rows) after name.says in
+    let rest = rows-go row.rest rows columns sides bounds row.says in
+    record { out = rest.out; is = rw (name.behind, row.behind) rest.is }
+
+pub sections_in-complete : (text : List ℕ) (rows columns sides bounds : List (List Bytes)) → HasSections text rows columns sides bounds → (out : SectionLines) × (sections_in (lines_of text) ≡ Some out)
+sections_in-complete text rows columns sides bounds h =
+    let read = sections-go (lines_of text) rows columns sides bounds (record { before_is = ap (λ (p : Parts). p.before) h.parts; sections_are = ap (λ (p : Parts). p.sections) h.parts; full = h.full }) in
+    (read.out, read.is)
