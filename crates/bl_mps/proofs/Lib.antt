@@ -10,3 +10,5 @@ pub mod SideLaws
 pub mod ColumnLaws
 pub mod BoundLaws
 pub mod SectionLaws
+pub mod MeaningLaws
+pub mod FirstLaws
