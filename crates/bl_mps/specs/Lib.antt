@@ -11,3 +11,7 @@ pub mod Sections
 pub mod SectionViews
 pub mod Stops
 pub mod Views
+pub mod FirstForm
+pub mod Meaning
+pub mod Parts
+pub mod Values
