@@ -68,14 +68,16 @@ upper-some column line z e =
     let test = test-some (bytes_eq bound.0.kind (codes "UP") && (bytes_eq bound.0.column column && not (starts_with_minus bound.0.number))) (number_within 10000000 bound.0.number) z bound.2 in
     let kind = and-true (bytes_eq bound.0.kind (codes "UP")) (bytes_eq bound.0.column column && not (starts_with_minus bound.0.number)) test.0 in
     let named = and-true (bytes_eq bound.0.column column) (not (starts_with_minus bound.0.number)) kind.1 in
-    let number : number_within 10000000 (field 3 line) ≡ Some z = ap (number_within 10000000) is.number ∙ test.1 in
-    (record {
-      four_fields = is.four_fields;
-      kind = is.kind ∙ same-from bound.0.kind (codes "UP") kind.0;
-      named = is.column ∙ same-from bound.0.column column named.0;
-      unsigned = ap starts_with_minus is.number ∙ not-true (starts_with_minus bound.0.number) named.1;
-      number = some-true (number_within 10000000 (field 3 line)) z number;
-    }, number)
+    let number : number_within 10000000 (field 3 line) ≡ Some z = ap (number_within 10000000) is.number ∙ test.1 in (
+      record {
+        four_fields = is.four_fields;
+        kind = is.kind ∙ same-from bound.0.kind (codes "UP") kind.0;
+        named = is.column ∙ same-from bound.0.column column named.0;
+        unsigned = ap starts_with_minus is.number ∙ not-true (starts_with_minus bound.0.number) named.1;
+        number = some-true (number_within 10000000 (field 3 line)) z number;
+      },
+      number,
+    )
 
 some-of : {A : Type 0} (o : Option A) → is_some o ≡ true → (x : A) × (o ≡ Some x)
 some-of None e = absurd (false≢true e)
@@ -85,7 +87,7 @@ upper-is : (column : Bytes) (line : List Bytes) (z : ℤ) → IsFirstBound colum
 unfolding upper_in
 upper-is column line z h n =
     let test : (bytes_eq (field 0 line) (codes "UP") && (bytes_eq (field 2 line) column && not (starts_with_minus (field 3 line)))) ≡ true =
-      rw (same-true (field 0 line) (codes "UP") h.kind, same-true (field 2 line) column h.named) (ap not h.unsigned) in
+    rw (same-true (field 0 line) (codes "UP") h.kind, same-true (field 2 line) column h.named) (ap not h.unsigned) in
     rw (bound-four line h.four_fields) (ap (λ (t : Bool). cond t (number_within 10000000 (field 3 line)) None) test ∙ n)
 
 -- ---- all lines
@@ -132,9 +134,9 @@ uppers-sound front (name ∷ columns) uppers after (line ∷ lines) size e end =
     let value = within-value 10000000 (field 3 line) step.2 bound.1 in
     let regroup : front ++ name ∷ columns ≡ (front ++ name ∷ []) ++ columns = sym (append_assoc front (name ∷ []) columns) in
     let rest = uppers-sound (front ++ name ∷ []) columns next.0 after lines
-      (omega (arith, ap length step.4, length-append uppers (step.2 ∷ []), length-append front (name ∷ []), size))
-      (ap (λ (cs : List Bytes). taken_up (bound_taken_up cs) next.0 lines) (sym regroup) ∙ next.2)
-      (end ∙ ap length regroup) in
+    (omega (arith, ap length step.4, length-append uppers (step.2 ∷ []), length-append front (name ∷ []), size))
+    (ap (λ (cs : List Bytes). taken_up (bound_taken_up cs) next.0 lines) (sym regroup) ∙ next.2)
+    (end ∙ ap length regroup) in
     record {
       bounds = (bound.0, rest.bounds);
       uppers = rest.uppers ∙ ap (λ (us : List ℤ). us ++ map upper_of lines) (sym step.4) ∙ append_assoc uppers (step.2 ∷ []) (map upper_of lines) ∙ ap (λ (z : ℤ). uppers ++ z ∷ map upper_of lines) (sym value);

@@ -37,13 +37,13 @@ appended-named : (names : List Bytes) (name other : Bytes) (test : Bool) → is_
 appended-named names name other false e = named-append names (name ∷ []) other
 appended-named names name other true e = there-by (bytes_eq other name) refl
   where
-  there-by : (same : Bool) → bytes_eq other name ≡ same → is_named names other ≡ (is_named names other || is_named (name ∷ []) other)
-  there-by false s = rw s (or-nothing (is_named names other))
-    where
-    or-nothing : (a : Bool) → a ≡ (a || false)
-    or-nothing true = refl
-    or-nothing false = refl
-  there-by true s = let named : is_named names other ≡ true = ap (is_named names) (same-from other name s) ∙ e in named ∙ sym (or-left (is_named names other) (is_named (name ∷ []) other) named)
+    there-by : (same : Bool) → bytes_eq other name ≡ same → is_named names other ≡ (is_named names other || is_named (name ∷ []) other)
+    there-by false s = rw s (or-nothing (is_named names other))
+      where
+        or-nothing : (a : Bool) → a ≡ (a || false)
+        or-nothing true = refl
+        or-nothing false = refl
+    there-by true s = let named : is_named names other ≡ true = ap (is_named names) (same-from other name s) ∙ e in named ∙ sym (or-left (is_named names other) (is_named (name ∷ []) other) named)
 
 or-three : (a b c d : Bool) → d ≡ (a || (b || false)) → (d || c) ≡ (a || (b || c))
 or-three true b c d e = rw e refl
@@ -53,9 +53,9 @@ or-three false false c d e = rw e refl
 fold-named : (names more : List Bytes) (other : Bytes) → is_named (fold appended names more) other ≡ (is_named names other || is_named more other)
 fold-named names [] other = or-nothing (is_named names other)
   where
-  or-nothing : (a : Bool) → a ≡ (a || false)
-  or-nothing true = refl
-  or-nothing false = refl
+    or-nothing : (a : Bool) → a ≡ (a || false)
+    or-nothing true = refl
+    or-nothing false = refl
 fold-named names (name ∷ more) other = fold-named (appended names name) more other ∙ or-three (is_named names other) (bytes_eq other name) (is_named more other) (is_named (appended names name) other) (appended-named names name other (is_named names name) refl)
 
 pub named-appeared : (names : List Bytes) (other : Bytes) → is_named (appeared names) other ≡ is_named names other
@@ -196,8 +196,8 @@ begun-new rows lines columns name names h e =
     record {
       names = more.2 ∙ ap (λ (ns : List Bytes). ns ++ name ∷ []) h.names ∙ sym (appeared-push (keys lines) name ∙ appended-new (appeared (keys lines)) name (named-appeared (keys lines) name ∙ absent));
       numbers = ap (λ (ns : List (List (Option ℤ))). ns ++ replicate (length rows) None ∷ []) h.numbers
-        ∙ ap (λ (n : List (Option ℤ)). map (column_numbers rows lines) columns.names ++ n ∷ []) none
-        ∙ sym (ap (map (column_numbers rows lines)) more.2 ∙ map_push (column_numbers rows lines) columns.names name);
+          ∙ ap (λ (n : List (Option ℤ)). map (column_numbers rows lines) columns.names ++ n ∷ []) none
+          ∙ sym (ap (map (column_numbers rows lines)) more.2 ∙ map_push (column_numbers rows lines) columns.names name);
       last = ap last_name more.2 ∙ last-push columns.names name;
       some = omega (arith, ap length more.2, length_push columns.names name);
       most = omega (arith, ap length more.2, length_push columns.names name, more.0);
@@ -227,9 +227,9 @@ begun-by rows lines columns next name None h found e =
     subst (IsBegun rows lines name) same (begun-new rows lines columns name added-names.0 h added-names.1)
 begun-by rows lines columns next name (Some place) h found e = last-by (eqb (place + 1) (length columns.names)) refl e
   where
-  last-by : (test : Bool) → eqb (place + 1) (length columns.names) ≡ test → cond test (Some columns) None ≡ Some next → IsBegun rows lines name next
-  last-by true t s = let same : columns ≡ next = cc in subst (IsBegun rows lines name) same (begun-old rows lines columns name place h found (eqb-true _ _ t))
-  last-by false t s = absurd cc
+    last-by : (test : Bool) → eqb (place + 1) (length columns.names) ≡ test → cond test (Some columns) None ≡ Some next → IsBegun rows lines name next
+    last-by true t s = let same : columns ≡ next = cc in subst (IsBegun rows lines name) same (begun-old rows lines columns name place h found (eqb-true _ _ t))
+    last-by false t s = absurd cc
 
 begun-some : (rows : List Bytes) (lines : List (List Bytes)) (columns next : ColumnList) (name : Bytes) → AreColumns rows lines columns → begun (length rows) columns name ≡ Some next → IsBegun rows lines name next
 unfolding begun
@@ -248,9 +248,9 @@ set-at rows lines line names distinct some last i lt (inl same) =
     ap (λ (k : ℕ). get_or (set old (length names - 1) new) k []) same
     ∙ get_or-set_same old (length names - 1) new [] (omega arith)
     ∙ sym (numbers-at rows (lines ++ line ∷ []) names i lt
-      ∙ ap (λ (k : ℕ). column_numbers rows (lines ++ line ∷ []) (get_or names k [])) same
-      ∙ ap (column_numbers rows (lines ++ line ∷ [])) last
-      ∙ ap (numbers_of rows) (on-same (field 0 line) lines line refl))
+    ∙ ap (λ (k : ℕ). column_numbers rows (lines ++ line ∷ []) (get_or names k [])) same
+    ∙ ap (column_numbers rows (lines ++ line ∷ [])) last
+    ∙ ap (numbers_of rows) (on-same (field 0 line) lines line refl))
 set-at rows lines line names distinct some last i lt (inr other) =
     let old = map (column_numbers rows lines) names in
     let new = numbers_of rows (pairs_on (field 0 line) lines ++ pairs_of_column line) in
@@ -258,7 +258,7 @@ set-at rows lines line names distinct some last i lt (inr other) =
     get_or-set_other old (length names - 1) i new [] other
     ∙ numbers-at rows lines names i lt
     ∙ sym (numbers-at rows (lines ++ line ∷ []) names i lt
-      ∙ ap (numbers_of rows) (on-other (get_or names i []) lines line (differ-false (get_or names i []) (field 0 line) apart)))
+    ∙ ap (numbers_of rows) (on-other (get_or names i []) lines line (differ-false (get_or names i []) (field 0 line) apart)))
 
 set-last : (rows : List Bytes) (lines : List (List Bytes)) (line : List Bytes) (names : List Bytes) → AreDistinct names → 0 < length names → last_name names ≡ field 0 line → set (map (column_numbers rows lines) names) (length names - 1) (numbers_of rows (pairs_on (field 0 line) lines ++ pairs_of_column line)) ≡ map (column_numbers rows (lines ++ line ∷ [])) names
 set-last rows lines line names distinct some last =
@@ -267,8 +267,8 @@ set-last rows lines line names distinct some last =
     let size = length-map names (column_numbers rows lines) in
     let size-after = length-map names (column_numbers rows (lines ++ line ∷ [])) in
     ext_get_or [] (set old (length names - 1) new) (map (column_numbers rows (lines ++ line ∷ [])) names)
-      (length-set old (length names - 1) new ∙ size ∙ sym size-after)
-      (λ i lt. set-at rows lines line names distinct some last i (omega (arith, length-set old (length names - 1) new, size)) (cases_eq i (length names - 1)))
+    (length-set old (length names - 1) new ∙ size ∙ sym size-after)
+    (λ i lt. set-at rows lines line names distinct some last i (omega (arith, length-set old (length names - 1) new, size)) (cases_eq i (length names - 1)))
 
 -- ---- one line taken up
 
@@ -331,10 +331,10 @@ columns-more rows distinct lines columns line next h e =
     let size : length step.middle.numbers ≡ length step.middle.names = ap length b.numbers ∙ length-map step.middle.names (column_numbers rows lines) in
     let names-distinct : AreDistinct step.middle.names = subst AreDistinct (sym b.names) (appeared-distinct (keys lines ++ field 0 line ∷ [])) in
     let set-is : set step.middle.numbers (length step.middle.numbers - 1) l.numbers ≡ map (column_numbers rows (lines ++ line ∷ [])) step.middle.names =
-        ap (λ (k : ℕ). set step.middle.numbers (k - 1) l.numbers) size
-        ∙ ap (λ (ns : List (List (Option ℤ))). set ns (length step.middle.names - 1) l.numbers) b.numbers
-        ∙ ap (set (map (column_numbers rows lines) step.middle.names) (length step.middle.names - 1)) pairs.after
-        ∙ set-last rows lines line step.middle.names names-distinct b.some b.last in
+    ap (λ (k : ℕ). set step.middle.numbers (k - 1) l.numbers) size
+    ∙ ap (λ (ns : List (List (Option ℤ))). set ns (length step.middle.names - 1) l.numbers) b.numbers
+    ∙ ap (set (map (column_numbers rows lines) step.middle.names) (length step.middle.names - 1)) pairs.after
+    ∙ set-last rows lines line step.middle.names names-distinct b.some b.last in
     record {
       names = names ∙ b.names ∙ ap appeared (sym key-push);
       numbers = ap (λ (c : ColumnList). c.numbers) (sym l.after) ∙ set-is ∙ ap (map (column_numbers rows (lines ++ line ∷ []))) (sym names);
@@ -379,9 +379,9 @@ begun-goes rows lines more line columns (Some place) h good p =
     let names-distinct : AreDistinct columns.names = subst AreDistinct (sym h.names) (appeared-distinct (keys lines)) in
     (columns, end-by names-distinct same last (cases_eq place (length columns.names - 1)))
   where
-  end-by : AreDistinct columns.names → get_or columns.names place [] ≡ field 0 line → last_name columns.names ≡ field 0 line → (place ≡ length columns.names - 1) ⊎ (place ≡ length columns.names - 1 → ⊥) → cond (eqb (place + 1) (length columns.names)) (Some columns) None ≡ Some columns
-  end-by distinct same last (inl e) = let at = position-Some (bytes_eq (field 0 line)) columns.names place [] p in let end : place + 1 ≡ length columns.names = omega (arith, at.0) in rw (eq-eqb _ _ end) refl
-  end-by distinct same last (inr other) = let at = position-Some (bytes_eq (field 0 line)) columns.names place [] p in absurd (distinct-places columns.names distinct place (length columns.names - 1) at.0 (omega (arith, at.0)) other (same ∙ sym last))
+    end-by : AreDistinct columns.names → get_or columns.names place [] ≡ field 0 line → last_name columns.names ≡ field 0 line → (place ≡ length columns.names - 1) ⊎ (place ≡ length columns.names - 1 → ⊥) → cond (eqb (place + 1) (length columns.names)) (Some columns) None ≡ Some columns
+    end-by distinct same last (inl e) = let at = position-Some (bytes_eq (field 0 line)) columns.names place [] p in let end : place + 1 ≡ length columns.names = omega (arith, at.0) in rw (eq-eqb _ _ end) refl
+    end-by distinct same last (inr other) = let at = position-Some (bytes_eq (field 0 line)) columns.names place [] p in absurd (distinct-places columns.names distinct place (length columns.names - 1) at.0 (omega (arith, at.0)) other (same ∙ sym last))
 
 columns-goes : (rows : List Bytes) → AreDistinct rows → (lines : List (List Bytes)) (columns : ColumnList) (line : List Bytes) (more : List (List Bytes)) → AreColumns rows lines columns → AreColumnLines rows (lines ++ line ∷ more) → (next : ColumnList) × (column_taken_up rows columns line ≡ Some next)
 columns-goes rows distinct lines columns line more h good =
@@ -392,7 +392,7 @@ columns-goes rows distinct lines columns line more h good =
     let split : all_pairs (lines ++ line ∷ more) ≡ (all_pairs lines ++ pairs_of_column line) ++ all_pairs more = flat_map-append pairs_of_column lines (line ∷ more) ∙ sym (append_assoc (all_pairs lines) (pairs_of_column line) (all_pairs more)) in
     let entries = all-back (IsEntry rows 10000000) (all_pairs lines) (pairs_of_column line) (all-front (IsEntry rows 10000000) (all_pairs lines ++ pairs_of_column line) (all_pairs more) (subst (AllByRecursion (IsEntry rows 10000000)) split good.entries)) in
     let regroup : pairs_on (field 0 line) (lines ++ line ∷ more) ≡ (pairs_on (field 0 line) lines ++ pairs_of_column line) ++ pairs_on (field 0 line) more =
-        ap (pairs_on (field 0 line)) (sym (append_assoc lines (line ∷ []) more)) ∙ on-append (field 0 line) (lines ++ line ∷ []) more ∙ ap (λ (ps : List (Bytes × Bytes)). ps ++ pairs_on (field 0 line) more) (on-same (field 0 line) lines line refl) in
+    ap (pairs_on (field 0 line)) (sym (append_assoc lines (line ∷ []) more)) ∙ on-append (field 0 line) (lines ++ line ∷ []) more ∙ ap (λ (ps : List (Bytes × Bytes)). ps ++ pairs_on (field 0 line) more) (on-same (field 0 line) lines line refl) in
     let once = AreDistinct-front (names_of (pairs_on (field 0 line) lines ++ pairs_of_column line)) (names_of (pairs_on (field 0 line) more)) (subst AreDistinct (ap names_of regroup ∙ map-append (λ p. p.0) (pairs_on (field 0 line) lines ++ pairs_of_column line) (pairs_on (field 0 line) more)) (good.once (field 0 line))) in
     let numbers = pairs-complete rows 10000000 (pairs_on (field 0 line) lines) (pairs_of_column line) distinct entries once in
     let enters = last-is rows begins.0 (pairs_of_column line) numbers.0 (ap (λ (ns : List (Option ℤ)). taken_up (entered rows 10000000) ns (pairs_of_column line)) (begun-last rows lines (field 0 line) begins.0 b) ∙ numbers.1) in
@@ -403,9 +403,9 @@ columns-goes rows distinct lines columns line more h good =
 marker-three : (word : Bytes) (n a b : Bytes) → is_marker word (n ∷ a ∷ b ∷ []) ≡ true → b ≡ word
 marker-three word n a b e = same-from b word (and-right (bytes_eq a (codes "'MARKER'")) (bytes_eq b word) e)
   where
-  and-right : (x y : Bool) → (x && y) ≡ true → y ≡ true
-  and-right true y e = e
-  and-right false y e = absurd (false≢true e)
+    and-right : (x y : Bool) → (x && y) ≡ true → y ≡ true
+    and-right true y e = e
+    and-right false y e = absurd (false≢true e)
 
 bool-false : (b : Bool) → (b ≡ true → ⊥) → b ≡ false
 bool-false true h = absurd (h refl)
@@ -418,8 +418,8 @@ not-end rows most (n ∷ []) shape entries = refl
 not-end rows most (n ∷ a ∷ []) shape entries = refl
 not-end rows most (n ∷ a ∷ b ∷ []) shape entries =
     bool-false (is_marker (codes "'INTEND'") (n ∷ a ∷ b ∷ [])) (λ e.
-      let word = marker-three (codes "'INTEND'") n a b e in
-      false≢true (ap (λ (number : Bytes). is_some (number_within most number)) (sym word) ∙ entries.0.1))
+    let word = marker-three (codes "'INTEND'") n a b e in
+    false≢true (ap (λ (number : Bytes). is_some (number_within most number)) (sym word) ∙ entries.0.1))
 not-end rows most (n ∷ a ∷ b ∷ c ∷ more) shape entries = refl
 
 -- what is known of the lines up to the last marker line
@@ -443,12 +443,13 @@ from-step rows distinct front line lines columns next false m h e more =
     let c = bind_some (column_taken_up rows columns line) (λ c. columns_from rows c lines) next e in
     let rest = more c.0 c.1 c.2 in
     record { middle = line ∷ rest.middle; last = rest.last; parts = ap (λ (ls : List (List Bytes)). line ∷ ls) rest.parts; ends = rest.ends; columns_are = subst (λ (ls : List (List Bytes)). AreColumns rows ls next) (append_assoc front (line ∷ []) rest.middle) rest.columns_are }
+
 from-sound : (rows : List Bytes) → AreDistinct rows → (front lines : List (List Bytes)) (columns next : ColumnList) → AreColumns rows front columns → columns_from rows columns lines ≡ Some next → AreEnded rows front lines next
 unfolding columns_from
 from-sound rows distinct front [] columns next h e = absurd cc
 from-sound rows distinct front (line ∷ lines) columns next h e =
     from-step rows distinct front line lines columns next (is_marker (codes "'INTEND'") line) refl h e
-      (λ c took rest. from-sound rows distinct (front ++ line ∷ []) lines c next (columns-more rows distinct front columns line c h took) rest)
+    (λ c took rest. from-sound rows distinct (front ++ line ∷ []) lines c next (columns-more rows distinct front columns line c h took) rest)
 
 end-is : (rows : List Bytes) (columns : ColumnList) (last : List Bytes) → is_marker (codes "'INTEND'") last ≡ true → columns_from rows columns (last ∷ []) ≡ Some columns
 unfolding columns_from

@@ -71,9 +71,9 @@ pub named-append : (xs ys : List Bytes) (name : Bytes) → is_named (xs ++ ys) n
 named-append [] ys name = refl
 named-append (x ∷ xs) ys name = or-assoc (bytes_eq name x) (is_named xs name) (is_named ys name) (is_named (xs ++ ys) name) (named-append xs ys name)
   where
-  or-assoc : (a b c d : Bool) → d ≡ (b || c) → (a || d) ≡ ((a || b) || c)
-  or-assoc true b c d e = refl
-  or-assoc false b c d e = e
+    or-assoc : (a b c d : Bool) → d ≡ (b || c) → (a || d) ≡ ((a || b) || c)
+    or-assoc true b c d e = refl
+    or-assoc false b c d e = e
 
 pub named-position : (names : List Bytes) (name : Bytes) (place : Option ℕ) → position (bytes_eq name) names ≡ place → is_named names name ≡ is_some place
 named-position names name None e = list_any-none (bytes_eq name) names e
@@ -89,8 +89,8 @@ AreDistinct-push names name h f = all_pairs_push (λ a b. a ≢ b) names name h 
 pub AreDistinct-fresh : (names more : List Bytes) (name : Bytes) → AreDistinct (names ++ name ∷ more) → is_named names name ≡ false
 AreDistinct-fresh names more name h =
     named-false-from names name (λ k d lt e.
-      h k (length names) d lt (omega (arith, length-append names (name ∷ more)))
-        (get_or_append_left names (name ∷ more) d k lt ∙ e ∙ sym (get_or_at names name more d (length names) refl)))
+    h k (length names) d lt (omega (arith, length-append names (name ∷ more)))
+    (get_or_append_left names (name ∷ more) d k lt ∙ e ∙ sym (get_or_at names name more d (length names) refl)))
 
 pub AreDistinct-nil : AreDistinct []
 AreDistinct-nil i j d lt within e = omega arith

@@ -102,12 +102,6 @@ record IsRead (text : List ℕ) (first : List Bytes) (rest columns sides bounds 
   model : IsModel (first ∷ rest) columns sides bounds mps
 
 module _ (text : List ℕ) (first : List Bytes) (rest columns sides bounds : List (List Bytes)) (mps : RawMps) (h : IsRead text first rest columns sides bounds mps) where
-
-
-
-
-
-
   at-rows : under (codes "ROWS") text ≡ first ∷ rest
   at-rows = rows-under text (first ∷ rest) columns sides bounds h.sections
 
@@ -126,7 +120,7 @@ module _ (text : List ℕ) (first : List Bytes) (rest columns sides bounds : Lis
   sides-read : SidesRead (field 1 first) (map (field 1) rest) sides h.model.numbers
   sides-read =
       right_sides_in-sound (field 1 first) (map (field 1) rest) sides h.model.numbers h.model.rows_read.good.distinct
-        (ap (λ (names : List Bytes). right_sides_in names sides) (sym names-are) ∙ h.model.sides_in)
+      (ap (λ (names : List Bytes). right_sides_in names sides) (sym names-are) ∙ h.model.sides_in)
 
   first-columns : AreFirstColumns (names_under_rows (under (codes "ROWS") text)) (under (codes "COLUMNS") text)
   first-columns =
@@ -144,9 +138,9 @@ module _ (text : List ℕ) (first : List Bytes) (rest columns sides bounds : Lis
   first-sections : HasSections text (under (codes "ROWS") text) (under (codes "COLUMNS") text) (under (codes "RHS") text) (under (codes "BOUNDS") text)
   first-sections =
       subst (λ (b : List (List Bytes)). HasSections text (under (codes "ROWS") text) (under (codes "COLUMNS") text) (under (codes "RHS") text) b) (sym at-bounds)
-        (subst (λ (s : List (List Bytes)). HasSections text (under (codes "ROWS") text) (under (codes "COLUMNS") text) s bounds) (sym at-sides)
-          (subst (λ (c : List (List Bytes)). HasSections text (under (codes "ROWS") text) c sides bounds) (sym at-columns)
-            (subst (λ (r : List (List Bytes)). HasSections text r columns sides bounds) (sym at-rows) h.sections)))
+      (subst (λ (s : List (List Bytes)). HasSections text (under (codes "ROWS") text) (under (codes "COLUMNS") text) s bounds) (sym at-sides)
+      (subst (λ (c : List (List Bytes)). HasSections text (under (codes "ROWS") text) c sides bounds) (sym at-columns)
+      (subst (λ (r : List (List Bytes)). HasSections text r columns sides bounds) (sym at-rows) h.sections)))
 
   first-form : IsFirstForm text
   unfolding first-columns
@@ -156,9 +150,9 @@ module _ (text : List ℕ) (first : List Bytes) (rest columns sides bounds : Lis
     rows = subst AreFirstRows (sym at-rows) h.model.rows_read.good;
     columns = first-columns;
     right_sides = subst (λ (s : List (List Bytes)). AreFirstRightSides (drop 1 (names_under_rows (under (codes "ROWS") text))) s) (sym at-sides)
-      (subst (λ (names : List Bytes). AreFirstRightSides names sides) (ap (λ (rows : List (List Bytes)). drop 1 (names_under_rows rows)) (sym at-rows)) sides-read.good);
+        (subst (λ (names : List Bytes). AreFirstRightSides names sides) (ap (λ (rows : List (List Bytes)). drop 1 (names_under_rows rows)) (sym at-rows)) sides-read.good);
     bounds = subst (λ (b : List (List Bytes)). AllZip IsFirstBound (names_under_columns h.model.columns_read.good.lines) b) (sym at-bounds)
-      (subst (λ (names : List Bytes). AllZip IsFirstBound names bounds) h.model.columns_read.names h.model.uppers_read.good);
+        (subst (λ (names : List Bytes). AllZip IsFirstBound names bounds) h.model.columns_read.names h.model.uppers_read.good);
   }
 
   -- ---- what the text says
@@ -222,9 +216,9 @@ module _ (text : List ℕ) (first : List Bytes) (rest columns sides bounds : Lis
       let at = column_at h.model.column_list h.model.uppers in
       let size = length-map-range_with_len at 0 (length names) in
       zip-from (IsColumnMeant default text) names (raw_columns h.model.column_list h.model.uppers) (sym size)
-        (λ k d e lt.
-          subst (λ (name : Bytes). IsColumnMeant default text name (get_or (raw_columns h.model.column_list h.model.uppers) k e)) (get_or_default names k [] d lt)
-            (subst (λ (column : RawColumn). IsColumnMeant default text (get_or names k []) column) (sym (get_or-map-range_with_len at 0 (length names) k k e lt (omega arith))) (says-column default k lt)))
+      (λ k d e lt.
+      subst (λ (name : Bytes). IsColumnMeant default text name (get_or (raw_columns h.model.column_list h.model.uppers) k e)) (get_or_default names k [] d lt)
+      (subst (λ (column : RawColumn). IsColumnMeant default text (get_or names k []) column) (sym (get_or-map-range_with_len at 0 (length names) k k e lt (omega arith))) (says-column default k lt)))
 
   reads : (default : ℤ) → Reads text default mps
   reads default =
@@ -252,7 +246,7 @@ first-sound text mps e =
     let test = test-some (leb (length text) most_bytes) (sections_in (lines_of text) >>= model_in) mps e in
     let sections = bind_some (sections_in (lines_of text)) model_in mps test.1 in
     model-sound text (all_fields sections.0.rows) (all_fields sections.0.columns) (all_fields sections.0.right_sides) (all_fields sections.0.bounds) mps
-      (leb-true _ _ test.0) (sections_in-sound text sections.0 sections.1) (model-some sections.0 mps sections.2)
+    (leb-true _ _ test.0) (sections_in-sound text sections.0 sections.1) (model-some sections.0 mps sections.2)
 
 -- what lets the lines under the sections be read
 record CanBeRead (rows columns sides bounds : List (List Bytes)) : Type 0 where
@@ -323,7 +317,7 @@ first-complete text f =
         between = subst (λ (rows : List (List Bytes)). AreColumnLines (names_under_rows rows) f.columns.lines) r f.columns.between;
       };
       sides_good = subst (λ (lines : List (List Bytes)). AreFirstRightSides (drop 1 (names_under_rows (all_fields out.rows))) lines) s
-        (subst (λ (rows : List (List Bytes)). AreFirstRightSides (drop 1 (names_under_rows rows)) (under (codes "RHS") text)) r f.right_sides);
+          (subst (λ (rows : List (List Bytes)). AreFirstRightSides (drop 1 (names_under_rows rows)) (under (codes "RHS") text)) r f.right_sides);
       bounds_good = subst (λ (lines : List (List Bytes)). AllZip IsFirstBound (names_under_columns f.columns.lines) lines) b f.bounds;
     }) in
     (model.0, first-is text out model.0 (le-leb _ _ f.size) sections.1 model.1)

@@ -80,10 +80,10 @@ rows-are objective rest pairs rows kinds names senses =
     let count : length rows.senses ≡ length rest = ap length senses ∙ length-map rest sense_of in
     let size = length-map-range_with_len (row_at rows sides) 0 (length rows.senses) in
     same_lists (raw_rows rows sides) (map (row_meant pairs []) rest) (size ∙ count ∙ sym (length-map rest (row_meant pairs [])))
-      (λ k d lt.
-        get_or-map-range_with_len (row_at rows sides) 0 (length rows.senses) k k d (omega arith) (omega arith)
-        ∙ row-at objective rest pairs rows k kinds names senses (omega arith)
-        ∙ sym (get_or-map (row_meant pairs []) rest k [] d (omega arith)))
+    (λ k d lt.
+    get_or-map-range_with_len (row_at rows sides) 0 (length rows.senses) k k d (omega arith) (omega arith)
+    ∙ row-at objective rest pairs rows k kinds names senses (omega arith)
+    ∙ sym (get_or-map (row_meant pairs []) rest k [] d (omega arith)))
 
 -- ---- the lines of the columns
 
@@ -93,9 +93,9 @@ marker-field word (n ∷ []) e = absurd (false≢true e)
 marker-field word (n ∷ a ∷ []) e = absurd (false≢true e)
 marker-field word (n ∷ a ∷ b ∷ []) e = and-left (bytes_eq a (codes "'MARKER'")) (bytes_eq b word) e
   where
-  and-left : (x y : Bool) → (x && y) ≡ true → x ≡ true
-  and-left true y e = refl
-  and-left false y e = absurd (false≢true e)
+    and-left : (x y : Bool) → (x && y) ≡ true → x ≡ true
+    and-left true y e = refl
+    and-left false y e = absurd (false≢true e)
 marker-field word (n ∷ a ∷ b ∷ c ∷ more) e = absurd (false≢true e)
 
 -- the first pair's name is the second field
@@ -159,12 +159,12 @@ entries-are objective names pairs =
     let places = length-enumerate_from 0 (map (coefficient pairs) names) in
     let numbered = length-map names (coefficient pairs) in
     ap (filter (λ entry. is_nonzero entry.1))
-      (same_lists (map (entry_at numbers) (range_with_len 0 (length numbers - 1))) (enumerate_from 0 (map (coefficient pairs) names)) (count ∙ size ∙ sym (places ∙ numbered))
-        (λ k d lt.
-          let within : k < length names = omega arith in
-          get_or-map-range_with_len (entry_at numbers) 0 (length numbers - 1) k k d (omega arith) (omega arith)
-          ∙ entry-place objective names pairs k d.1 within
-          ∙ sym (get_or-enumerate_from 0 (map (coefficient pairs) names) k d (omega arith) ∙ ap (λ (n : ℕ). (n, get_or (map (coefficient pairs) names) k d.1)) (zero-add k))))
+    (same_lists (map (entry_at numbers) (range_with_len 0 (length numbers - 1))) (enumerate_from 0 (map (coefficient pairs) names)) (count ∙ size ∙ sym (places ∙ numbered))
+    (λ k d lt.
+    let within : k < length names = omega arith in
+    get_or-map-range_with_len (entry_at numbers) 0 (length numbers - 1) k k d (omega arith) (omega arith)
+    ∙ entry-place objective names pairs k d.1 within
+    ∙ sym (get_or-enumerate_from 0 (map (coefficient pairs) names) k d (omega arith) ∙ ap (λ (n : ℕ). (n, get_or (map (coefficient pairs) names) k d.1)) (zero-add k))))
 
 -- ---- lists place by place
 

@@ -136,8 +136,8 @@ entered-at names pairs pair place z distinct lt at fresh value i within (inl sam
     ap (λ (k : ℕ). get_or (set (numbers_of names pairs) place (Some z)) k None) same
     ∙ get_or-set_same (numbers_of names pairs) place (Some z) None long
     ∙ sym (number-at names (pairs ++ pair ∷ []) i within
-      ∙ ap (λ (name : Bytes). number_after name (pairs ++ pair ∷ [])) here
-      ∙ number-push_fresh pair.0 pairs pair fresh ∙ number-alone pair.0 pair refl ∙ ap (λ (y : ℤ). Some y) value)
+    ∙ ap (λ (name : Bytes). number_after name (pairs ++ pair ∷ [])) here
+    ∙ number-push_fresh pair.0 pairs pair fresh ∙ number-alone pair.0 pair refl ∙ ap (λ (y : ℤ). Some y) value)
 entered-at names pairs pair place z distinct lt at fresh value i within (inr other) =
     let apart : get_or names i [] ≡ pair.0 → ⊥ = λ e. distinct-places names distinct i place within lt other (e ∙ sym at) in
     get_or-set_other (numbers_of names pairs) place i (Some z) None other
@@ -149,8 +149,8 @@ entered-numbers names pairs pair place z distinct lt at fresh value =
     let old = length-map names (λ name. number_after name pairs) in
     let new = length-map names (λ name. number_after name (pairs ++ pair ∷ [])) in
     ext_get_or None (set (numbers_of names pairs) place (Some z)) (numbers_of names (pairs ++ pair ∷ []))
-      (length-set (numbers_of names pairs) place (Some z) ∙ old ∙ sym new)
-      (λ i lt-i. entered-at names pairs pair place z distinct lt at fresh value i (omega (arith, length-set (numbers_of names pairs) place (Some z), old)) (cases_eq i place))
+    (length-set (numbers_of names pairs) place (Some z) ∙ old ∙ sym new)
+    (λ i lt-i. entered-at names pairs pair place z distinct lt at fresh value i (omega (arith, length-set (numbers_of names pairs) place (Some z), old)) (cases_eq i place))
 
 pub entered-some : (names : List Bytes) (most : ℕ) (pairs : List (Bytes × Bytes)) (pair : Bytes × Bytes) (numbers : List (Option ℤ)) → AreDistinct names → entered names most (numbers_of names pairs) pair ≡ Some numbers → IsEntered names most pairs pair numbers
 unfolding entered

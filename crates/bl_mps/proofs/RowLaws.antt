@@ -43,9 +43,9 @@ pub record IsRowLine (line : List Bytes) : Type 0 where
 name-some : (name other : Bytes) → row_name name ≡ Some other → (name ≢ codes "'MARKER'") × (name ≡ other)
 name-some name other e = name-by name other (bytes_eq name (codes "'MARKER'")) refl e
   where
-  name-by : (name other : Bytes) (test : Bool) → bytes_eq name (codes "'MARKER'") ≡ test → cond test None (Some name) ≡ Some other → (name ≢ codes "'MARKER'") × (name ≡ other)
-  name-by name other true t e = absurd cc
-  name-by name other false t e = (differ-from name (codes "'MARKER'") t, cc)
+    name-by : (name other : Bytes) (test : Bool) → bytes_eq name (codes "'MARKER'") ≡ test → cond test None (Some name) ≡ Some other → (name ≢ codes "'MARKER'") × (name ≡ other)
+    name-by name other true t e = absurd cc
+    name-by name other false t e = (differ-from name (codes "'MARKER'") t, cc)
 
 name-plain : (name : Bytes) → name ≢ codes "'MARKER'" → row_name name ≡ Some name
 name-plain name h = rw (differ-false name (codes "'MARKER'") h) refl
@@ -53,25 +53,25 @@ name-plain name h = rw (differ-false name (codes "'MARKER'") h) refl
 pub added-some : (most : ℕ) (names : List Bytes) (name : Bytes) (more : List Bytes) → added most names name ≡ Some more → (length names < most) × (is_named names name ≡ false) × (more ≡ names ++ name ∷ [])
 added-some most names name more e = added-by (ltb (length names) most) (position (bytes_eq name) names) refl refl e
   where
-  added-by : (room : Bool) (place : Option ℕ) → ltb (length names) most ≡ room → position (bytes_eq name) names ≡ place → cond (room && is_none place) (Some (names ++ name ∷ [])) None ≡ Some more → (length names < most) × (is_named names name ≡ false) × (more ≡ names ++ name ∷ [])
-  added-by true None r p e = (ltb-true _ _ r, named-position names name None p, cc)
-  added-by true (Some i) r p e = absurd cc
-  added-by false place r p e = absurd cc
+    added-by : (room : Bool) (place : Option ℕ) → ltb (length names) most ≡ room → position (bytes_eq name) names ≡ place → cond (room && is_none place) (Some (names ++ name ∷ [])) None ≡ Some more → (length names < most) × (is_named names name ≡ false) × (more ≡ names ++ name ∷ [])
+    added-by true None r p e = (ltb-true _ _ r, named-position names name None p, cc)
+    added-by true (Some i) r p e = absurd cc
+    added-by false place r p e = absurd cc
 
 pub added-fresh : (most : ℕ) (names : List Bytes) (name : Bytes) → length names < most → is_named names name ≡ false → added most names name ≡ Some (names ++ name ∷ [])
 added-fresh most names name lt fresh = fresh-by (position (bytes_eq name) names) refl
   where
-  fresh-by : (place : Option ℕ) → position (bytes_eq name) names ≡ place → added most names name ≡ Some (names ++ name ∷ [])
-  fresh-by None p = rw (lt-ltb _ _ lt, p) refl
-  fresh-by (Some i) p = absurd (false≢true (sym fresh ∙ named-position names name (Some i) p))
+    fresh-by : (place : Option ℕ) → position (bytes_eq name) names ≡ place → added most names name ≡ Some (names ++ name ∷ [])
+    fresh-by None p = rw (lt-ltb _ _ lt, p) refl
+    fresh-by (Some i) p = absurd (false≢true (sym fresh ∙ named-position names name (Some i) p))
 
 sense-some : (line : List Bytes) (kind : Bytes) (sense : Sense) → field 0 line ≡ kind → sense_in kind ≡ Some sense → IsKind line × (sense ≡ sense_of line)
 sense-some line kind sense at e = sense-by (bytes_eq kind (codes "L")) (bytes_eq kind (codes "G")) refl refl e
   where
-  sense-by : (upper lower : Bool) → bytes_eq kind (codes "L") ≡ upper → bytes_eq kind (codes "G") ≡ lower → cond upper (Some AtMost) (cond lower (Some AtLeast) None) ≡ Some sense → IsKind line × (sense ≡ sense_of line)
-  sense-by true lower u l e = (inl (at ∙ same-from kind (codes "L") u), rw (at, u) cc)
-  sense-by false true u l e = (inr (at ∙ same-from kind (codes "G") l), rw (at, u) cc)
-  sense-by false false u l e = absurd cc
+    sense-by : (upper lower : Bool) → bytes_eq kind (codes "L") ≡ upper → bytes_eq kind (codes "G") ≡ lower → cond upper (Some AtMost) (cond lower (Some AtLeast) None) ≡ Some sense → IsKind line × (sense ≡ sense_of line)
+    sense-by true lower u l e = (inl (at ∙ same-from kind (codes "L") u), rw (at, u) cc)
+    sense-by false true u l e = (inr (at ∙ same-from kind (codes "G") l), rw (at, u) cc)
+    sense-by false false u l e = absurd cc
 
 sense-kind : (line : List Bytes) → IsKind line → sense_in (field 0 line) ≡ Some (sense_of line)
 sense-kind line (inl upper) = rw (same-true (field 0 line) (codes "L") upper) refl
@@ -98,9 +98,10 @@ objective-some line rows e =
     let two = pair-some line pair.0 pair.1 in
     let name = bind_some (row_name pair.0.1) (λ name. cond (bytes_eq pair.0.0 (codes "N")) (Some (record { names = name ∷ []; senses = [] })) None) rows pair.2 in
     let plain = name-some pair.0.1 name.0 name.1 in
-    let kind = objective-by pair.0 name.0 rows (bytes_eq pair.0.0 (codes "N")) refl name.2 in
-    (record { row = record { two_fields = two.0; no_marker = λ m. plain.0 (sym two.2 ∙ m) }; kind = two.1 ∙ kind.0 },
-      sym kind.1 ∙ rw (← plain.1, ← two.2) refl)
+    let kind = objective-by pair.0 name.0 rows (bytes_eq pair.0.0 (codes "N")) refl name.2 in (
+      record { row = record { two_fields = two.0; no_marker = λ m. plain.0 (sym two.2 ∙ m) }; kind = two.1 ∙ kind.0 },
+      sym kind.1 ∙ rw (← plain.1, ← two.2) refl,
+    )
 
 objective-line : (line : List Bytes) → IsObjectiveLine line → objective_in line ≡ Some (row_list line [])
 unfolding objective_in
@@ -149,9 +150,10 @@ row-some first rest line rows e =
 
 row-line : (first : List Bytes) (rest : List (List Bytes)) (line : List Bytes) → IsRowLine line → IsKind line → length (map (field 1) (first ∷ rest)) < 201 → is_named (map (field 1) (first ∷ rest)) (field 1 line) ≡ false → (rows : RowList) × (row_taken_up (row_list first rest) line ≡ Some rows)
 unfolding row_taken_up
-row-line first rest line row kind room fresh =
-    (record { names = map (field 1) (first ∷ rest) ++ field 1 line ∷ []; senses = map sense_of rest ++ sense_of line ∷ [] },
-      rw (pair-two line row.two_fields, sense-kind line kind, name-plain (field 1 line) row.no_marker, added-fresh 201 (map (field 1) (first ∷ rest)) (field 1 line) room fresh) refl)
+row-line first rest line row kind room fresh = (
+  record { names = map (field 1) (first ∷ rest) ++ field 1 line ∷ []; senses = map sense_of rest ++ sense_of line ∷ [] },
+  rw (pair-two line row.two_fields, sense-kind line kind, name-plain (field 1 line) row.no_marker, added-fresh 201 (map (field 1) (first ∷ rest)) (field 1 line) room fresh) refl,
+)
 
 -- ---- all rows
 
@@ -161,13 +163,15 @@ AreRowsOf first rest rows = (rows ≡ row_list first rest) × AreRest first rest
 
 rest-more : (first : List Bytes) (rest : List (List Bytes)) (rows : RowList) (line : List Bytes) (more : RowList) → AreRowsOf first rest rows → row_taken_up rows line ≡ Some more → AreRowsOf first (rest ++ line ∷ []) more
 rest-more first rest rows line more h e =
-    let took = row-some first rest line more (ap (λ (r : RowList). row_taken_up r line) (sym h.0) ∙ e) in
-    (took.after, record {
-      most = omega (arith, length-append rest (line ∷ []), length-map (first ∷ rest) (field 1), took.room);
-      rows = all-append IsRowLine rest (line ∷ []) h.1.rows (took.row, tt);
-      kinds = all-append IsKind rest (line ∷ []) h.1.kinds (took.kind, tt);
-      distinct = subst AreDistinct (sym (map_push (field 1) (first ∷ rest) line)) (AreDistinct-push (map (field 1) (first ∷ rest)) (field 1 line) h.1.distinct took.fresh);
-    })
+    let took = row-some first rest line more (ap (λ (r : RowList). row_taken_up r line) (sym h.0) ∙ e) in (
+      took.after,
+      record {
+        most = omega (arith, length-append rest (line ∷ []), length-map (first ∷ rest) (field 1), took.room);
+        rows = all-append IsRowLine rest (line ∷ []) h.1.rows (took.row, tt);
+        kinds = all-append IsKind rest (line ∷ []) h.1.kinds (took.kind, tt);
+        distinct = subst AreDistinct (sym (map_push (field 1) (first ∷ rest) line)) (AreDistinct-push (map (field 1) (first ∷ rest)) (field 1 line) h.1.distinct took.fresh);
+      },
+    )
 
 first-distinct : (name : Bytes) → AreDistinct (name ∷ [])
 first-distinct name = AreDistinct-push [] name AreDistinct-nil refl
@@ -243,5 +247,5 @@ pub rows_in-complete : (lines : List (List Bytes)) → AreFirstRows lines → (r
 rows_in-complete [] h = absurd (omega (arith, h.some))
 rows_in-complete (first ∷ lines) h =
     rows-complete first lines
-      (record { row = record { two_fields = h.two_fields.0; no_marker = h.no_marker.0 }; kind = h.objective.0 })
-      (record { most = omega (arith, h.most); rows = rows-facts lines h.two_fields.1 h.no_marker.1; kinds = h.kinds; distinct = h.distinct })
+    (record { row = record { two_fields = h.two_fields.0; no_marker = h.no_marker.0 }; kind = h.objective.0 })
+    (record { most = omega (arith, h.most); rows = rows-facts lines h.two_fields.1 h.no_marker.1; kinds = h.kinds; distinct = h.distinct })

@@ -127,12 +127,12 @@ data-plain (b ∷ rest) plain some =
     let comment : eqb b 42 ≡ false = comment-by (eqb b 42) refl in
     rw comment some
   where
-  comment-by : (test : Bool) → eqb b 42 ≡ test → eqb b 42 ≡ false
-  comment-by false t = t
-  comment-by true t =
-      let at : b ≡ 42 = eqb-true b 42 t in
-      let star : true ≡ false = ap (λ (x : ℕ). not (is_blank x)) (sym at) ∙ plain in
-      absurd (false≢true (sym star))
+    comment-by : (test : Bool) → eqb b 42 ≡ test → eqb b 42 ≡ false
+    comment-by false t = t
+    comment-by true t =
+        let at : b ≡ 42 = eqb-true b 42 t in
+        let star : true ≡ false = ap (λ (x : ℕ). not (is_blank x)) (sym at) ∙ plain in
+        absurd (false≢true (sym star))
 
 data-by : (line : Bytes) (lines front back : List Bytes) (heads empty : Bool) → begins_section line ≡ heads → eqb (length (fields_of line)) 0 ≡ empty → cond {A = Option Split} heads (Some ([], line ∷ lines)) (cond {A = Option Split} empty None (data_split lines >>= λ parts. Some (line ∷ parts.0, parts.1))) ≡ Some (front, back) → ((f b : List Bytes) → data_split lines ≡ Some (f, b) → SaysData lines f b) → SaysData (line ∷ lines) front back
 data-by line lines front back true empty h m e more =
@@ -214,9 +214,9 @@ end-says : (rows columns sides bounds lines : List Bytes) (out : SectionLines) �
 end-says rows columns sides bounds [] out e = (says-nothing, cc)
 end-says rows columns sides bounds (line ∷ lines) out e = absurd (none-by (eqb (length (line ∷ lines)) 0) (eqb-suc-zero (length lines)) e)
   where
-  none-by : (test : Bool) → test ≡ false → cond test (Some (record { rows = rows; columns = columns; right_sides = sides; bounds = bounds })) None ≡ Some out → ⊥
-  none-by true t s = false≢true (sym t)
-  none-by false t s = cc
+    none-by : (test : Bool) → test ≡ false → cond test (Some (record { rows = rows; columns = columns; right_sides = sides; bounds = bounds })) None ≡ Some out → ⊥
+    none-by true t s = false≢true (sym t)
+    none-by false t s = cc
 
 -- what the lines under a section say, up to the end
 bounds-say : (rows columns sides lines : List Bytes) (out : SectionLines) → at_bounds rows columns sides lines ≡ Some out → Says lines (all_fields out.bounds) (section (codes "ENDATA") [] ∷ []) × (record { rows = rows; columns = columns; right_sides = sides; bounds = out.bounds } ≡ out)
@@ -224,10 +224,11 @@ bounds-say rows columns sides lines out e =
     let split = bind_some (data_split lines) (λ bounds. behind_heading (codes "ENDATA") bounds.1 >>= ends rows columns sides bounds.0) out e in
     let rest = bind_some (behind_heading (codes "ENDATA") split.0.1) (ends rows columns sides split.0.0) out split.2 in
     let end = end-says rows columns sides split.0.0 rest.0 out rest.2 in
-    let same : split.0.0 ≡ out.bounds = ap (λ (s : SectionLines). s.bounds) end.1 in
-    (subst (λ (b : List Bytes). Says lines (all_fields b) (section (codes "ENDATA") [] ∷ [])) same
-      (data-then lines split.0.0 split.0.1 (section (codes "ENDATA") [] ∷ []) split.1 (heading-then 69 (codes "NDATA") split.0.1 rest.0 [] [] refl rest.1 end.0)),
-      ap (λ (b : List Bytes). record { rows = rows; columns = columns; right_sides = sides; bounds = b }) (sym same) ∙ end.1)
+    let same : split.0.0 ≡ out.bounds = ap (λ (s : SectionLines). s.bounds) end.1 in (
+      subst (λ (b : List Bytes). Says lines (all_fields b) (section (codes "ENDATA") [] ∷ [])) same
+          (data-then lines split.0.0 split.0.1 (section (codes "ENDATA") [] ∷ []) split.1 (heading-then 69 (codes "NDATA") split.0.1 rest.0 [] [] refl rest.1 end.0)),
+      ap (λ (b : List Bytes). record { rows = rows; columns = columns; right_sides = sides; bounds = b }) (sym same) ∙ end.1,
+    )
 
 -- the sections from BOUNDS on, and so before
 abbrev from_bounds : SectionLines → List Section
@@ -244,20 +245,22 @@ sides-say rows columns lines out e =
     let split = bind_some (data_split lines) (λ sides. behind_heading (codes "BOUNDS") sides.1 >>= at_bounds rows columns sides.0) out e in
     let rest = bind_some (behind_heading (codes "BOUNDS") split.0.1) (at_bounds rows columns split.0.0) out split.2 in
     let end = bounds-say rows columns split.0.0 rest.0 out rest.2 in
-    let same : split.0.0 ≡ out.right_sides = ap (λ (s : SectionLines). s.right_sides) end.1 in
-    (subst (λ (b : List Bytes). Says lines (all_fields b) (from_bounds out)) same
-      (data-then lines split.0.0 split.0.1 (from_bounds out) split.1 (heading-then 66 (codes "OUNDS") split.0.1 rest.0 (all_fields out.bounds) (section (codes "ENDATA") [] ∷ []) refl rest.1 end.0)),
-      ap (λ (b : List Bytes). record { rows = rows; columns = columns; right_sides = b; bounds = out.bounds }) (sym same) ∙ end.1)
+    let same : split.0.0 ≡ out.right_sides = ap (λ (s : SectionLines). s.right_sides) end.1 in (
+      subst (λ (b : List Bytes). Says lines (all_fields b) (from_bounds out)) same
+          (data-then lines split.0.0 split.0.1 (from_bounds out) split.1 (heading-then 66 (codes "OUNDS") split.0.1 rest.0 (all_fields out.bounds) (section (codes "ENDATA") [] ∷ []) refl rest.1 end.0)),
+      ap (λ (b : List Bytes). record { rows = rows; columns = columns; right_sides = b; bounds = out.bounds }) (sym same) ∙ end.1,
+    )
 
 columns-say : (rows lines : List Bytes) (out : SectionLines) → at_columns rows lines ≡ Some out → Says lines (all_fields out.columns) (from_sides out) × (record { rows = rows; columns = out.columns; right_sides = out.right_sides; bounds = out.bounds } ≡ out)
 columns-say rows lines out e =
     let split = bind_some (data_split lines) (λ columns. behind_heading (codes "RHS") columns.1 >>= at_sides rows columns.0) out e in
     let rest = bind_some (behind_heading (codes "RHS") split.0.1) (at_sides rows split.0.0) out split.2 in
     let end = sides-say rows split.0.0 rest.0 out rest.2 in
-    let same : split.0.0 ≡ out.columns = ap (λ (s : SectionLines). s.columns) end.1 in
-    (subst (λ (b : List Bytes). Says lines (all_fields b) (from_sides out)) same
-      (data-then lines split.0.0 split.0.1 (from_sides out) split.1 (heading-then 82 (codes "HS") split.0.1 rest.0 (all_fields out.right_sides) (from_bounds out) refl rest.1 end.0)),
-      ap (λ (b : List Bytes). record { rows = rows; columns = b; right_sides = out.right_sides; bounds = out.bounds }) (sym same) ∙ end.1)
+    let same : split.0.0 ≡ out.columns = ap (λ (s : SectionLines). s.columns) end.1 in (
+      subst (λ (b : List Bytes). Says lines (all_fields b) (from_sides out)) same
+          (data-then lines split.0.0 split.0.1 (from_sides out) split.1 (heading-then 82 (codes "HS") split.0.1 rest.0 (all_fields out.right_sides) (from_bounds out) refl rest.1 end.0)),
+      ap (λ (b : List Bytes). record { rows = rows; columns = b; right_sides = out.right_sides; bounds = out.bounds }) (sym same) ∙ end.1,
+    )
 
 rows-say : (lines : List Bytes) (out : SectionLines) → at_rows lines ≡ Some out → Says lines (all_fields out.rows) (from_columns out)
 rows-say lines out e =
@@ -266,7 +269,7 @@ rows-say lines out e =
     let end = columns-say split.0.0 rest.0 out rest.2 in
     let same : split.0.0 ≡ out.rows = ap (λ (s : SectionLines). s.rows) end.1 in
     subst (λ (b : List Bytes). Says lines (all_fields b) (from_columns out)) same
-      (data-then lines split.0.0 split.0.1 (from_columns out) split.1 (heading-then 67 (codes "OLUMNS") split.0.1 rest.0 (all_fields out.columns) (from_sides out) refl rest.1 end.0))
+    (data-then lines split.0.0 split.0.1 (from_columns out) split.1 (heading-then 67 (codes "OLUMNS") split.0.1 rest.0 (all_fields out.columns) (from_sides out) refl rest.1 end.0))
 
 pub sections_in-sound : (text : List ℕ) (out : SectionLines) → sections_in (lines_of text) ≡ Some out → HasSections text (all_fields out.rows) (all_fields out.columns) (all_fields out.right_sides) (all_fields out.bounds)
 unfolding sections_in
@@ -363,16 +366,16 @@ nothing-left : (lines : List Bytes) → Says lines [] [] → lines ≡ []
 nothing-left [] says = refl
 nothing-left (line ∷ lines) says = absurd (something-by (begins_section line) refl)
   where
-  something-by : (heads : Bool) → begins_section line ≡ heads → ⊥
-  something-by true h =
-      let parts = parts-heading line lines says.full.0 h in
-      let here : Section = record { name = field 0 (fields_of line); lines = (parts_of lines).before } in
-      let none : here ∷ (parts_of lines).sections ≡ [] = sym (ap (λ (p : Parts). p.sections) parts) ∙ says.sections_are in
-      cc
-  something-by false h =
-      let parts = parts-data line lines says.full.0 h in
-      let none : fields_of line ∷ (parts_of lines).before ≡ [] = sym (ap (λ (p : Parts). p.before) parts) ∙ says.before_is in
-      cc
+    something-by : (heads : Bool) → begins_section line ≡ heads → ⊥
+    something-by true h =
+        let parts = parts-heading line lines says.full.0 h in
+        let here : Section = record { name = field 0 (fields_of line); lines = (parts_of lines).before } in
+        let none : here ∷ (parts_of lines).sections ≡ [] = sym (ap (λ (p : Parts). p.sections) parts) ∙ says.sections_are in
+        cc
+    something-by false h =
+        let parts = parts-data line lines says.full.0 h in
+        let none : fields_of line ∷ (parts_of lines).before ≡ [] = sym (ap (λ (p : Parts). p.before) parts) ∙ says.before_is in
+        cc
 
 end-goes : (rows columns sides bounds lines : List Bytes) → Says lines [] [] → ends rows columns sides bounds lines ≡ Some (record { rows = rows; columns = columns; right_sides = sides; bounds = bounds })
 end-goes rows columns sides bounds lines says = rw (nothing-left lines says) refl

@@ -93,9 +93,9 @@ with-objective : (objective : Bytes) (rows : List Bytes) (pairs : List (Bytes ×
 with-objective objective rows [] h = tt
 with-objective objective rows (pair ∷ pairs) h = ((or-right (bytes_eq pair.0 objective) (is_named rows pair.0) h.0.0, h.0.1), with-objective objective rows pairs h.1)
   where
-  or-right : (a b : Bool) → b ≡ true → (a || b) ≡ true
-  or-right true b e = refl
-  or-right false b e = e
+    or-right : (a b : Bool) → b ≡ true → (a || b) ≡ true
+    or-right true b e = refl
+    or-right false b e = e
 
 never-objective : (objective : Bytes) (rows : List Bytes) (pairs : List (Bytes × Bytes)) → is_named rows objective ≡ false → AllByRecursion (IsEntry rows 1000000000000000) pairs → is_named (names_of pairs) objective ≡ false
 never-objective objective rows [] fresh h = refl

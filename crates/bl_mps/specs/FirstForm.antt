@@ -19,7 +19,7 @@ pub record HasSections (text : List ℕ) (rows columns right_sides bounds : List
   pub parts : parts_of (lines_of text) ≡ record {
     before = [];
     sections = section (codes "NAME") [] ∷ section (codes "ROWS") rows ∷ section (codes "COLUMNS") columns
-      ∷ section (codes "RHS") right_sides ∷ section (codes "BOUNDS") bounds ∷ section (codes "ENDATA") [] ∷ [];
+        ∷ section (codes "RHS") right_sides ∷ section (codes "BOUNDS") bounds ∷ section (codes "ENDATA") [] ∷ [];
   }
 
 -- no two are the same

@@ -134,8 +134,8 @@ upper_set line =
 abbrev pub last_set : {A : Type 0} → A → List (Option A) → A
 last_set first sets = fold unwrapped first sets
   where
-  unwrapped : {A : Type 0} → A → Option A → A
-  unwrapped before set = unwrap_or set before
+    unwrapped : {A : Type 0} → A → Option A → A
+    unwrapped before set = unwrap_or set before
 
 -- the lines of bounds that name a column
 abbrev pub bounds_on : Bytes → List (List Bytes) → List (List Bytes)

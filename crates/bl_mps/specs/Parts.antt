@@ -33,8 +33,8 @@ abbrev pub with_line : Bytes → Parts → Parts
 with_line line parts =
     if is_skipped line then parts
     else (if begins_section line
-      then record { before = []; sections = record { name = field 0 (fields_of line); lines = parts.before } ∷ parts.sections }
-      else record { before = fields_of line ∷ parts.before; sections = parts.sections })
+    then record { before = []; sections = record { name = field 0 (fields_of line); lines = parts.before } ∷ parts.sections }
+    else record { before = fields_of line ∷ parts.before; sections = parts.sections })
 
 unfoldable pub parts_of : List Bytes → Parts
 parts_of [] = record { before = []; sections = [] }

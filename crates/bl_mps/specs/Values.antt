@@ -35,4 +35,4 @@ unfoldable pub value_of : Bytes → ℤ
 value_of number =
     let unsigned = without_leading_sign number in
     signed (starts_with_minus number)
-      (scaled (before_first is_exponent_mark unsigned) (signed_digits (after_first is_exponent_mark unsigned)))
+    (scaled (before_first is_exponent_mark unsigned) (signed_digits (after_first is_exponent_mark unsigned)))

@@ -16,4 +16,4 @@ returns-in-None-clause-first c =
 pub returns-in-Some-clause-cut : goal.returns-in-Some-clause-cut
 returns-in-Some-clause-cut c =
     inl (text-cut c.args.text.now c.in-Some.end (sym c.in-Some.ensures)
-      ∙ ap (λ (rest : List ℕ). take c.in-Some.end c.args.text.now ++ 10 ∷ rest) (sym (take_rest c.args.text.now _)))
+    ∙ ap (λ (rest : List ℕ). take c.in-Some.end c.args.text.now ++ 10 ∷ rest) (sym (take_rest c.args.text.now _)))
