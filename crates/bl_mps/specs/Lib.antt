@@ -12,6 +12,7 @@ pub mod SectionViews
 pub mod Stops
 pub mod Views
 pub mod FirstForm
+pub mod FirstRead
 pub mod Meaning
 pub mod Parts
 pub mod Values

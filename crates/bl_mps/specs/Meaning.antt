@@ -52,9 +52,6 @@ row_lines rows = filter (λ line. not (is_objective line)) rows
 abbrev pub pairs_of_set : List Bytes → List (Bytes × Bytes)
 pairs_of_set line = pairs_from (if length line % 2 == 0 then line else drop 1 line)
 
-abbrev pub magnitude : ℤ → ℤ
-magnitude z = pos (unsigned_abs z)
-
 -- the sides of a row of this kind with a right side and perhaps a range
 abbrev pub lower_side : Bytes → ℤ → Option ℤ → Option ℤ
 lower_side kind side None = if bytes_eq kind (codes "L") then None else Some side

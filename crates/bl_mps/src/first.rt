@@ -3,6 +3,7 @@ ghost use Rattle.std.specs.Prelude.{◌≡◌, ◌≤◌, length, IfOk, IfSome, 
 ghost use Rattle.bl_text.specs.Lines.{lines_of};
 ghost use Rattle.bl_model.specs.Raw.{KeepsLimits};
 ghost use Rattle.bl_mps.specs.First.{model_in, first_in};
+ghost use Rattle.bl_mps.specs.FirstRead.{IsFirstRead};
 ghost use Rattle.bl_mps.specs.SectionViews.{sections_view};
 ghost use Rattle.bl_mps.specs.Stops.{Gives};
 
@@ -35,6 +36,7 @@ fn read_sections(alloc: Global, sections: &Sections<'_>) -> Result<RawMps, Stop>
     })
 }
 
+/// The model of the text.
 #[tactic(auto, unfolding(crate::specs::First::first_in))]
 fn read_model(alloc: Global, text: &[u8]) -> Result<RawMps, Stop>
     ensures limits { IfOk result KeepsLimits }
@@ -47,10 +49,15 @@ fn read_model(alloc: Global, text: &[u8]) -> Result<RawMps, Stop>
     read_sections(alloc, &sections)
 }
 
-/// Reads an MPS text in the first form; `None` where it isn't in that form.
+/// Reads an MPS text in the first form, and gives `None` for every other text.
+///
+/// The first form is a narrow part of MPS: at most 16,777,216 bytes, the sections NAME, ROWS, COLUMNS,
+/// RHS, BOUNDS and ENDATA in this order without comments or empty lines, one objective row and rows of
+/// kind L and G, integer columns between two marker lines, one `UP` bound per column, and numbers of up
+/// to sixteen digits. Only want of memory is an error.
 pub fn read_first(alloc: Global, bytes: &[u8]) -> Result<Option<RawMps>, AllocError>
+    ensures exact { IfOk result (IsFirstRead bytes.now) }
     ensures limits { IfOk result (λ read. IfSome read KeepsLimits) }
-    ensures exact { IfOk result (λ read. read ≡ first_in bytes.now) }
 {
     match read_model(alloc, bytes) {
         Ok(mps) => Ok(Some(mps)),
