@@ -116,7 +116,7 @@ pub record IsBoxNotYet (mps_name aux_name file : List ℕ) (files : Files) : Typ
   pub reads : Reads mps_name aux_name mps aux files
   pub large : 1000000 < point_count (root (program_of mps aux))
 
--- what the file isn't yet solved for
+-- the file that isn't solved, by the first cause: the MPS text, the auxiliary text, the box
 abbrev pub IsNotYet : List ℕ → List ℕ → List ℕ → Files → Type 0
 IsNotYet mps_name aux_name file files = IsMpsNotYet mps_name file files ⊎ (IsAuxNotYet mps_name aux_name file files ⊎ IsBoxNotYet mps_name aux_name file files)
 
@@ -132,7 +132,7 @@ pub record IsAuxMissing (mps_name aux_name file : List ℕ) (files : Files) : Ty
   pub mps_read : MpsReads mps_name mps files
   pub absent : IsAbsent files aux_name
 
--- the file that is missing where it is to be read
+-- the file that is missing where it is to be read next
 abbrev pub IsMissing : List ℕ → List ℕ → List ℕ → Files → Type 0
 IsMissing mps_name aux_name file files = IsMpsMissing mps_name file files ⊎ IsAuxMissing mps_name aux_name file files
 
@@ -140,25 +140,25 @@ IsMissing mps_name aux_name file files = IsMpsMissing mps_name file files ⊎ Is
 abbrev pub IsEither : List ℕ → List ℕ → List ℕ → Type 0
 IsEither mps_name aux_name file = (file ≡ mps_name) ⊎ (file ≡ aux_name)
 
--- why a file isn't read
+-- why a file isn't read, by the failure
 abbrev pub FileFails : List ℕ → Failure → Files → Type 0
 FileFails name (failure.NotYet file) files = IsTooLong name files
 FileFails name (failure.Missing file) files = IsAbsent files name
 FileFails name _ files = ⊤
 
--- why no model is read
+-- why no model is read, by the failure
 abbrev pub MpsFails : List ℕ → Failure → Files → Type 0
 MpsFails name (failure.NotYet file) files = MpsRefused name files
 MpsFails name (failure.Missing file) files = IsAbsent files name
 MpsFails name _ files = ⊤
 
--- why no follower is read
+-- why no follower is read, by the failure
 abbrev pub AuxFails : List ℕ → RawMps → Failure → Files → Type 0
 AuxFails name mps (failure.NotYet file) files = AuxRefused name mps files
 AuxFails name mps (failure.Missing file) files = IsAbsent files name
 AuxFails name mps _ files = ⊤
 
--- why a model and a follower have no report
+-- why a model and a follower have no report, by the failure
 abbrev pub ModelFails : List ℕ → RawMps → RawAux → Failure → Type 0
 ModelFails name mps aux failure.Words = ⊥
 ModelFails name mps aux (failure.NotYet file) = (file.now ≡ name) × (1000000 < point_count (root (program_of mps aux)))
@@ -167,7 +167,7 @@ ModelFails name mps aux failure.WriteFault = ⊥
 ModelFails name mps aux failure.Memory = ⊤
 ModelFails name mps aux (failure.Missing file) = ⊥
 
--- why two files have no answer
+-- why two files have no answer, by the failure; want of memory has no cause
 abbrev pub SolveFails : Option Files → List ℕ → List ℕ → Option (List ℕ) → Option (List ℕ) → Failure → Type 0
 SolveFails files mps_name aux_name old new failure.Words = ⊥
 SolveFails files mps_name aux_name old new (failure.NotYet file) = IsEither mps_name aux_name file.now × IfTold files (IsNotYet mps_name aux_name file.now)
@@ -176,7 +176,7 @@ SolveFails files mps_name aux_name old new failure.WriteFault = PrintsPart files
 SolveFails files mps_name aux_name old new failure.Memory = ⊤
 SolveFails files mps_name aux_name old new (failure.Missing file) = IsEither mps_name aux_name file.now × IfTold files (IsMissing mps_name aux_name file.now)
 
--- what the output holds after a failure but one of writing
+-- the output is as before after any failure but one of writing
 abbrev pub LeavesOut : Option (List ℕ) → Option (List ℕ) → Failure → Type 0
 LeavesOut old new failure.WriteFault = ⊤
 LeavesOut old new _ = new ≡ old

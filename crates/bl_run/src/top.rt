@@ -15,8 +15,24 @@ use std::alloc::Global;
 use std::sync::Wait;
 use std::thread::Threads;
 
-/// Does all that the program does: the words after the program's name, files, the report on `out`,
-/// and the line on a failure on `err`. The gate has no effect on any answer.
+/// Does all that the program does: takes the words after the program's name, reads the two files,
+/// prints the report on `out`, or the line on a failure on `err`, and answers the exit status.
+///
+/// | Status | Comes |
+/// |---|---|
+/// | 0 | an optimal point is printed |
+/// | 1 | it is printed that no point is bilevel feasible |
+/// | 2 | the words aren't `solve` and the names of two different files |
+/// | 3 | a text isn't in the form that is read, or both are and the box has more than 1,000,000 points |
+/// | 6 | the shelf failed in reading |
+/// | 7 | `out` failed; some first bytes of the report may stand there |
+/// | 8 | no memory was left at some step before the report |
+/// | 10 | the file that is to be read next is missing |
+///
+/// A text has at most 16,777,216 bytes. The MPS file is read and judged before the auxiliary file is
+/// looked for. Where a fault of reading or want of memory comes first, it
+/// stands in place of a later cause. A failure of `err` changes no status. What the files and outputs
+/// hold is known where they tell it. The gate and the threads have no effect on any answer.
 pub fn run<R: Threads + Wait + Sync, F: Shelf, O: Sink, E: Sink, G: Gate + Sync>(
     _rt: &R,
     alloc: Global,
@@ -53,7 +69,7 @@ pub fn run<R: Threads + Wait + Sync, F: Shelf, O: Sink, E: Sink, G: Gate + Sync>
     run_alone(alloc, words, files, out, err)
 }
 
-/// The same on one thread; it waits for nobody.
+/// The same as `run` on one thread; it waits for nobody, and returns.
 pub fn run_alone<F: Shelf, O: Sink, E: Sink>(
     alloc: Global,
     words: &[String],
@@ -120,7 +136,10 @@ fn command<'a, F: Shelf, O: Sink>(
 }
 
 /// The answer where not even the words could be read for want of memory.
-pub fn want_memory<E: Sink>(err: &mut E) -> Status {
+pub fn want_memory<E: Sink>(err: &mut E) -> Status
+    ensures status { result.0 ≡ 8 }
+    ensures told { Tells (line_at 8 []) (E.bytes err.old) (E.bytes err.new) (E.faults err.old) (E.faults err.new) }
+{
     let _ = Failure::Memory.tell(err);
     Failure::Memory.status()
 }
