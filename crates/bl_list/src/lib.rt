@@ -2,5 +2,7 @@
 #![tactic(auto)]
 
 mod listed;
+#[cfg(test)]
+mod tests;
 
 pub use listed::Listed;

@@ -7,6 +7,8 @@ mod places;
 mod points;
 mod raw;
 mod row;
+#[cfg(test)]
+mod tests;
 
 pub use bilevel::Bilevel;
 pub use bl_list::Listed;

@@ -4,6 +4,8 @@
 mod best;
 mod follower;
 mod leader;
+#[cfg(test)]
+mod tests;
 
 pub use best::Optimum;
 pub use leader::plain_best;

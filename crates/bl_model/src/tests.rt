@@ -1,0 +1,191 @@
+//! Programs made of two texts, and tests of points, at answers worked out by hand.
+
+ghost use Rattle.std.specs.Prelude.{◌≡◌, [], length, All, IfOk};
+ghost use Rattle.bl_model.specs.Raw.{KeepsLimits, FitsModel, IsRow, IsColumn, IsSmall, IsSense};
+
+use super::*;
+use std::alloc::Global;
+use std::test::Fail;
+
+/// What is expected of a row: its coefficients, its right side, and whether it is the follower's.
+type Want = ([i64; 2], i64, bool);
+
+fn name(alloc: Global, letter: u8) -> Result<Name, Fail> {
+    Ok(Listed::new(vec![in alloc; letter]?))
+}
+
+fn row(alloc: Global, lo: Option<i64>, hi: Option<i64>) -> Result<RawRow, Fail>
+    requires { IsRow (record { name = []; lo = lo; hi = hi }) }
+    ensures { IfOk result IsRow }
+{
+    Ok(RawRow {
+        name: name(alloc, b'R')?,
+        lo,
+        hi,
+    })
+}
+
+/// A column from 0 to 10 with these coefficients in four rows.
+fn column(alloc: Global, cost: i64, coef: [i64; 4]) -> Result<RawColumn, Fail>
+    requires cost { IsSmall cost }
+    requires coef { All IsSmall coef }
+    ensures { IfOk result (IsColumn 4) }
+{
+    let [first, second, third, fourth] = coef;
+    let entries = vec![in alloc; (0, first), (1, second), (2, third), (3, fourth)]?;
+    Ok(RawColumn {
+        name: name(alloc, b'C')?,
+        lo: 0,
+        hi: 10,
+        cost,
+        entries: Listed::new(entries),
+    })
+}
+
+/// Moore and Bard's rows and columns, with these sides in place of theirs.
+fn moore_and_bard(alloc: Global, rows: [RawRow; 4]) -> Result<RawMps, Fail>
+    requires { All IsRow rows }
+    ensures limits { IfOk result KeepsLimits }
+    ensures columns { IfOk result (λ mps. length mps.columns ≡ 2) }
+    ensures rows { IfOk result (λ mps. length mps.rows ≡ 4) }
+{
+    let columns = vec![in alloc;
+        column(alloc, -1, [-25, 1, 2, 2])?,
+        column(alloc, -10, [20, 2, -1, 10])?,
+    ]?;
+    Ok(RawMps {
+        objective: name(alloc, b'Z')?,
+        rows: Listed::new(Vec::from_array(alloc, rows)?),
+        columns: Listed::new(columns),
+    })
+}
+
+/// The follower's columns and rows, his costs and his sense.
+fn follower(
+    alloc: Global,
+    columns: &[u32],
+    rows: &[u32],
+    costs: &[i64],
+    sense: i64,
+) -> Result<RawAux, Fail>
+    ensures { IfOk result (λ aux. aux ≡ record { columns = columns.now; rows = rows.now; costs = costs.now; sense = sense }) }
+{
+    Ok(RawAux {
+        columns: Listed::new(columns.to_vec(alloc)?),
+        rows: Listed::new(rows.to_vec(alloc)?),
+        costs: Listed::new(costs.to_vec(alloc)?),
+        sense,
+    })
+}
+
+/// Moore and Bard's program, all of whose rows are the follower's.
+fn follower_rows(alloc: Global) -> Result<Bilevel, Fail> {
+    let rows = [
+        row(alloc, None, Some(30))?,
+        row(alloc, None, Some(10))?,
+        row(alloc, None, Some(15))?,
+        row(alloc, Some(15), None)?,
+    ];
+    let aux = follower(alloc, &[1], &[0, 1, 2, 3], &[1], 1)?;
+    Ok(build(alloc, &moore_and_bard(alloc, rows)?, &aux)?)
+}
+
+/// The same coefficients: X is the follower's, who maximises 3 X under the first row, a range. The
+/// second row is an equation.
+fn two_sides(alloc: Global) -> Result<Bilevel, Fail> {
+    let rows = [
+        row(alloc, Some(-5), Some(30))?,
+        row(alloc, Some(10), Some(10))?,
+        row(alloc, None, Some(15))?,
+        row(alloc, Some(15), None)?,
+    ];
+    let aux = follower(alloc, &[0], &[0], &[3], -1)?;
+    Ok(build(alloc, &moore_and_bard(alloc, rows)?, &aux)?)
+}
+
+/// Whether these are the model's rows, in this order.
+fn has_rows(model: &Bilevel, want: &[Want]) -> bool {
+    let rows = model.rows();
+    rows.len() == want.len()
+        && rows.iter().zip(want).all(|(row, (coef, right, lower))| {
+            row.coef.as_slice() == coef.as_slice() && row.right == *right && row.lower == *lower
+        })
+}
+
+/// Whether the follower's columns, his costs and the linking columns are these.
+fn has_follower(model: &Bilevel, columns: &[u32], costs: &[i64], links: &[u32]) -> bool {
+    model.follower() == columns && model.follower_cost() == costs && model.links() == links
+}
+
+/// Of a point in the box, whether it meets all rows and the follower's rows, and its two costs.
+fn tested(model: &Bilevel, z: &[i64]) -> Option<(bool, bool, i64, i64)> {
+    if !model.in_box(z) {
+        return None;
+    }
+    let (rows, lower) = (model.meets_rows(z), model.meets_lower(z));
+    Some((rows, lower, model.cost_of(z), model.follower_of(z)))
+}
+
+#[test]
+fn joins_moore_and_bard(rt: HostRuntime) -> Result<(), Fail> {
+    let model = follower_rows(rt.alloc())?;
+    let want: [Want; 4] = [
+        ([-25, 20], 30, true),
+        ([1, 2], 10, true),
+        ([2, -1], 15, true),
+        ([-2, -10], -15, true),
+    ];
+    assert!(rt; has_rows(&model, &want));
+    assert!(rt; has_follower(&model, &[1], &[0, 1], &[0]));
+    assert_eq!(rt; model.sense(), 1);
+    Ok(())
+}
+
+#[test]
+fn joins_two_sides_and_a_maximum(rt: HostRuntime) -> Result<(), Fail> {
+    let model = two_sides(rt.alloc())?;
+    let want: [Want; 6] = [
+        ([-25, 20], 30, true),
+        ([25, -20], 5, true),
+        ([1, 2], 10, false),
+        ([-1, -2], -10, false),
+        ([2, -1], 15, false),
+        ([-2, -10], -15, false),
+    ];
+    assert!(rt; has_rows(&model, &want));
+    assert!(rt; has_follower(&model, &[0], &[-3, 0], &[1]));
+    assert_eq!(rt; model.sense(), -1);
+    Ok(())
+}
+
+#[test]
+fn tests_points(rt: HostRuntime) -> Result<(), Fail> {
+    let model = follower_rows(rt.alloc())?;
+    // (2, 2) is the optimum, (2, 4) what the leader alone would choose; (0, 0) breaks the last row.
+    let points = [
+        ([2, 2], Some((true, true, -22, 2))),
+        ([2, 4], Some((true, true, -42, 4))),
+        ([0, 0], Some((false, false, 0, 0))),
+        ([11, 0], None),
+        ([0, -1], None),
+    ];
+    for (z, want) in points {
+        assert_eq!(rt; tested(&model, &z), want, "{z:?}");
+    }
+    Ok(())
+}
+
+#[test]
+fn tests_points_at_both_sides(rt: HostRuntime) -> Result<(), Fail> {
+    let model = two_sides(rt.alloc())?;
+    // (1, 1) meets the follower's row at its lower side, and (2, 4) at its upper one.
+    let points = [
+        ([1, 1], Some((false, true, -11, -3))),
+        ([2, 4], Some((true, true, -42, -6))),
+        ([2, 2], Some((false, false, -22, -6))),
+    ];
+    for (z, want) in points {
+        assert_eq!(rt; tested(&model, &z), want, "{z:?}");
+    }
+    Ok(())
+}
