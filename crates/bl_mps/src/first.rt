@@ -57,6 +57,7 @@ fn read_model(alloc: Global, text: &[u8]) -> Result<RawMps, Stop>
 /// to sixteen digits. Only want of memory is an error.
 pub fn read_first(alloc: Global, bytes: &[u8]) -> Result<Option<RawMps>, AllocError>
     ensures exact { IfOk result (IsFirstRead bytes.now) }
+    ensures computed { IfOk result (λ read. read ≡ first_in bytes.now) }
     ensures limits { IfOk result (λ read. IfSome read KeepsLimits) }
 {
     match read_model(alloc, bytes) {
