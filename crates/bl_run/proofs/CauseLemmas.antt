@@ -17,7 +17,7 @@ long_refused text long =
 
 pub mps_fails : (name : List ℕ) (failure : Failure) (files : Files) → FileFails name failure files → MpsFails name failure files
 mps_fails name Words files h = tt
-mps_fails name (NotYet file) files h = record { text = h.text; held = h.held; refused = long_refused h.text h.longer }
+mps_fails name (NotYet file) files h = record { text = h.text; held = h.held; says = λ form. let size = form.size in let longer = h.longer in omega arith; refused = long_refused h.text h.longer }
 mps_fails name (ReadFault file) files h = tt
 mps_fails name WriteFault files h = tt
 mps_fails name Memory files h = tt

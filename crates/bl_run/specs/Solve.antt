@@ -8,6 +8,7 @@ use Rattle.bl_model.specs.declared.raw.RawAux.{RawAux}
 use Rattle.bl_model.specs.Raw.{FitsModel}
 use Rattle.bl_model.specs.Build.{program_of}
 use Rattle.bl_mps.specs.First.{first_in}
+use Rattle.bl_mps.specs.FirstRead.{IsFirstRead}
 use Rattle.bl_terms.specs.Programs.{Program, root, follower_at}
 use Rattle.bl_terms.specs.Trees.{point_count}
 use Rattle.bl_terms.specs.Feasible.{Optimal, Infeasible}
@@ -25,16 +26,18 @@ pub record IsTooLong (name : List ℕ) (files : Files) : Type 0 where
   pub held : Holds files name text
   pub longer : 16777216 < length text
 
--- the MPS file's text reads as this model
+-- the MPS file's text is in the first form and says this model, which is the one that is read of it
 pub record MpsReads (name : List ℕ) (mps : RawMps) (files : Files) : Type 0 where
   pub text : List ℕ
   pub held : Holds files name text
+  pub says : IsFirstRead text (Some mps)
   pub read : first_in text ≡ Some mps
 
--- the MPS file is there, and no model is read of its text; a text of more than 16,777,216 bytes is none
+-- the MPS file is there, and its text isn't in the first form, so that no model is read of it; one of more than 16,777,216 bytes isn't
 pub record MpsRefused (name : List ℕ) (files : Files) : Type 0 where
   pub text : List ℕ
   pub held : Holds files name text
+  pub says : IsFirstRead text None
   pub refused : first_in text ≡ None
 
 -- the auxiliary file has the text of this follower, who fits the model
