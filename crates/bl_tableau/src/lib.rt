@@ -1,0 +1,5 @@
+//! The dictionary of the dual simplex method over exact fractions, and its pivots.
+#![tactic(auto)]
+
+mod place;
+mod rows;
