@@ -2,3 +2,4 @@
 pub mod Dictionaries
 pub mod Pivots
 pub mod Cells
+pub mod Runs

@@ -3,3 +3,6 @@
 
 mod place;
 mod rows;
+mod tableau;
+
+pub use tableau::{Tableau, Wide};

@@ -31,19 +31,20 @@ loop-i-preserved c =
     let a = c.args in
     let Kept : List Fraction → Type 0 = λ zs. record { rows : RowsDone a.cells.now zs a.rows a.width a.at.row a.at.column (c.loop-i.i + 1); numbers : AreReduced zs } in
     elim c.if-i-at.branch [
-      then-i-at+in_default-reduce_row w ↦
-        let e = w.in_default-reduce_row.ensures in
-        subst Kept (sym w.cells-is)
-        (record {
-          rows = rows_step a.cells.now c.loop-i.cells w.reduce_row.new.cells a.rows a.width a.at.row a.at.column c.loop-i.i c.loop-i.invariant.rows c.loop-i-test.true c.requires.row_in w.if-i-at.true c.requires.column_in e.ok e.others;
-          numbers = e.lowest_terms;
-        })
-    | else-i-at w ↦
-        subst Kept (sym w.cells-is)
-        (record {
-          rows = rows_skip a.cells.now c.loop-i.cells a.rows a.width a.at.row a.at.column c.loop-i.i c.loop-i.invariant.rows w.if-i-at.false;
-          numbers = c.loop-i.invariant.numbers;
-        }) ]
+      | then-i-at+in_default-reduce_row w ↦
+          let e = w.in_default-reduce_row.ensures in
+          subst Kept (sym w.cells-is)
+          (record {
+            rows = rows_step a.cells.now c.loop-i.cells w.reduce_row.new.cells a.rows a.width a.at.row a.at.column c.loop-i.i c.loop-i.invariant.rows c.loop-i-test.true c.requires.row_in w.if-i-at.true c.requires.column_in e.ok e.others;
+            numbers = e.lowest_terms;
+          })
+      | else-i-at w ↦
+          subst Kept (sym w.cells-is)
+          (record {
+            rows = rows_skip a.cells.now c.loop-i.cells a.rows a.width a.at.row a.at.column c.loop-i.i c.loop-i.invariant.rows w.if-i-at.false;
+            numbers = c.loop-i.invariant.numbers;
+          })
+    ]
 
 pub returns-clause-ok : goal.returns-clause-ok
 returns-clause-ok c =
