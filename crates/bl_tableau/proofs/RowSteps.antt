@@ -20,10 +20,10 @@ read_reduced xs k x all h e = subst IsReduced (sym (read_cell xs k x h e)) (all.
 pub same_number : (j k : ℕ) → (j == k) ≡ true → j ≡ k
 same_number j k h = grind (arith, nat_tests)
 
-test_same : (j : ℕ) → (j == j) ≡ true
+pub test_same : (j : ℕ) → (j == j) ≡ true
 test_same j = grind (arith, nat_tests)
 
-test_other : (j k : ℕ) → j ≢ k → (j == k) ≡ false
+pub test_other : (j k : ℕ) → j ≢ k → (j == k) ≡ false
 test_other j k h = grind (arith, nat_tests)
 
 pub pivot_place-own : (place : ℕ → ℕ → Fraction) (r c j : ℕ) → pivot_place place r c r j ≡ share_of (place r j) (place r c) (j == c)
@@ -43,7 +43,7 @@ turn_of-own r = rw (test_same r) refl
 turn_of-other : (r i : ℕ) → i ≢ r → turn_of r i ≡ suc i
 turn_of-other r i h = rw (test_other i r h) refl
 
-some_is_some : (o : Option Fraction) (f : Fraction) → o ≡ Some f → IsSome o
+pub some_is_some : (o : Option Fraction) (f : Fraction) → o ≡ Some f → IsSome o
 some_is_some o f e = subst IsSome (sym e) refl
 
 -- ---- rows of one width don't overlap
