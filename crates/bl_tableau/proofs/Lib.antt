@@ -1,3 +1,4 @@
 pub mod Places
 pub mod RowSteps
 pub mod RunSteps
+pub mod OpeningSteps

@@ -16,7 +16,7 @@ pivot_place-agree : (p s : ℕ → ℕ → Fraction) (r c i j : ℕ) → p i c �
 unfolding pivot_place
 pivot_place-agree p s r c i j eic eij erj erc =
     let at : Fraction → Fraction → Fraction → Fraction → Option Fraction =
-        λ e x y z. cond (i == r) (share_of y z (j == c)) (remainder_of e x (unwrap_or (share_of y z (j == c)) (whole_fraction (pos 0))) (j == c)) in
+    λ e x y z. cond (i == r) (share_of y z (j == c)) (remainder_of e x (unwrap_or (share_of y z (j == c)) (whole_fraction (pos 0))) (j == c)) in
     ap (λ e. at e (p i j) (p r j) (p r c)) eic ∙ ap (λ x. at (s i c) x (p r j) (p r c)) eij ∙ ap (λ y. at (s i c) (s i j) y (p r c)) erj ∙ ap (at (s i c) (s i j) (s r j)) erc
 
 -- the two agree at every place of so many rows of so many numbers
@@ -52,33 +52,34 @@ written_back n new old en =
 relabelled : (xs : List ℕ) (k x i : ℕ) → k < length xs → slice_index (slice_set xs k x) i ≡ cond (i == k) x (slice_index xs i)
 relabelled xs k x i h =
     elim (cases_eq i k) [
-      inl e ↦ rw (e, test_same k) (get_or-set_same xs k x 0 h)
-    | inr ne ↦ rw (test_other i k ne) (get_or-set_other xs k i x 0 ne) ]
+      | inl e ↦ rw (e, test_same k) (get_or-set_same xs k x 0 h)
+      | inr ne ↦ rw (test_other i k ne) (get_or-set_other xs k i x 0 ne)
+    ]
 
 pub shows_pivoted : (q : Problem) (cells ys : List Fraction) (of_rows of_columns : List ℕ) (d : Dictionary) (r c : ℕ) → Shows q cells of_rows of_columns d → r < height_of q → c < columns q → length of_rows ≡ height_of q → length of_columns ≡ columns q
-  → ((i j : ℕ) → i < height_of q → j < width_of q → pivot_place (placed cells (width_of q)) r c i j ≡ Some (placed ys (width_of q) i j))
-  → Shows q ys (slice_set of_rows r (slice_index of_columns c)) (slice_set of_columns c (slice_index of_rows r)) (pivoted d r c)
+    → ((i j : ℕ) → i < height_of q → j < width_of q → pivot_place (placed cells (width_of q)) r c i j ≡ Some (placed ys (width_of q) i j))
+    → Shows q ys (slice_set of_rows r (slice_index of_columns c)) (slice_set of_columns c (slice_index of_rows r)) (pivoted d r c)
 unfolding pivoted
 shows_pivoted q cells ys of_rows of_columns d r c h hr hc lr lc new =
     let same : Agree (height_of q) (width_of q) (placed cells (width_of q)) d.place = record { each = h.places } in
     record {
       places = λ i j hi hj.
-        let after = agree_after (height_of q) (width_of q) (placed cells (width_of q)) d.place r c i j same hr (omega arith) hi hj in
-        sym (ap (λ o. unwrap_or o (whole_fraction (pos 0))) (sym after ∙ new i j hi hj));
+          let after = agree_after (height_of q) (width_of q) (placed cells (width_of q)) d.place r c i j same hr (omega arith) hi hj in
+          sym (ap (λ o. unwrap_or o (whole_fraction (pos 0))) (sym after ∙ new i j hi hj));
       row_labels = λ i hi.
-        relabelled of_rows r (slice_index of_columns c) i (omega arith) ∙ ap (λ x. cond (i == r) x (slice_index of_rows i)) (h.column_labels c hc) ∙ ap (cond (i == r) (d.column_label c)) (h.row_labels i hi);
+          relabelled of_rows r (slice_index of_columns c) i (omega arith) ∙ ap (λ x. cond (i == r) x (slice_index of_rows i)) (h.column_labels c hc) ∙ ap (cond (i == r) (d.column_label c)) (h.row_labels i hi);
       column_labels = λ j hj.
-        relabelled of_columns c (slice_index of_rows r) j (omega arith) ∙ ap (λ x. cond (j == c) x (slice_index of_columns j)) (h.row_labels r hr) ∙ ap (cond (j == c) (d.row_label r)) (h.column_labels j hj);
+          relabelled of_columns c (slice_index of_rows r) j (omega arith) ∙ ap (λ x. cond (j == c) x (slice_index of_columns j)) (h.row_labels r hr) ∙ ap (cond (j == c) (d.row_label r)) (h.column_labels j hj);
     }
 
 pub narrow_pivot : (q : Problem) (cells ys : List Fraction) (of_rows of_columns : List ℕ) (d : Dictionary) (r c : ℕ) → Shows q cells of_rows of_columns d → IsPivot q d r c
-  → ((i j : ℕ) → i < height_of q → j < width_of q → pivot_place (placed cells (width_of q)) r c i j ≡ Some (placed ys (width_of q) i j))
-  → IsNarrowPivot q d r c
+    → ((i j : ℕ) → i < height_of q → j < width_of q → pivot_place (placed cells (width_of q)) r c i j ≡ Some (placed ys (width_of q) i j))
+    → IsNarrowPivot q d r c
 narrow_pivot q cells ys of_rows of_columns d r c h can new = record {
   possible = can;
   each = λ i j hi hj.
-    let same : Agree (height_of q) (width_of q) (placed cells (width_of q)) d.place = record { each = h.places } in
-    some_is_some _ _ (sym (agree_after (height_of q) (width_of q) (placed cells (width_of q)) d.place r c i j same (omega (arith, can.row_in)) (omega (arith, can.column_in)) (omega arith) (omega arith)) ∙ new i j (omega arith) (omega arith));
+      let same : Agree (height_of q) (width_of q) (placed cells (width_of q)) d.place = record { each = h.places } in
+      some_is_some _ _ (sym (agree_after (height_of q) (width_of q) (placed cells (width_of q)) d.place r c i j same (omega (arith, can.row_in)) (omega (arith, can.column_in)) (omega arith) (omega arith)) ∙ new i j (omega arith) (omega arith));
 }
 
 -- ---- what the tableau keeps
@@ -87,10 +88,10 @@ true_is_not_false : (b : Bool) → b ≡ false → b ≡ true → ⊥
 true_is_not_false b p q = cc
 
 pub keeps_pivot : (q : Problem) (most : ℕ) (ps : List (ℕ × ℕ)) (spent : Bool) (cells ys : List Fraction) (of_rows of_columns : List ℕ) (capacity room r c : ℕ)
-  → KeepsReplay (record { problem = q; most = most; pivots = ps; spent = spent }) cells of_rows of_columns capacity
-  → spent ≡ false → IsPivot q (replay (opening q) ps) r c → length ps < most → most ≤ room → length ys ≡ length cells → AreReduced ys
-  → ((i j : ℕ) → i < height_of q → j < width_of q → pivot_place (placed cells (width_of q)) r c i j ≡ Some (placed ys (width_of q) i j))
-  → KeepsReplay (record { problem = q; most = most; pivots = ps ++ (r, c) ∷ []; spent = spent }) ys (slice_set of_rows r (slice_index of_columns c)) (slice_set of_columns c (slice_index of_rows r)) room
+    → KeepsReplay (record { problem = q; most = most; pivots = ps; spent = spent }) cells of_rows of_columns capacity
+    → spent ≡ false → IsPivot q (replay (opening q) ps) r c → length ps < most → most ≤ room → length ys ≡ length cells → AreReduced ys
+    → ((i j : ℕ) → i < height_of q → j < width_of q → pivot_place (placed cells (width_of q)) r c i j ≡ Some (placed ys (width_of q) i j))
+    → KeepsReplay (record { problem = q; most = most; pivots = ps ++ (r, c) ∷ []; spent = spent }) ys (slice_set of_rows r (slice_index of_columns c)) (slice_set of_columns c (slice_index of_rows r)) room
 keeps_pivot q most ps spent cells ys of_rows of_columns capacity room r c kept fresh can few in_room size numbers new =
     let d = replay (opening q) ps in
     let longer : replay (opening q) (ps ++ (r, c) ∷ []) ≡ pivoted d r c = replay-append (opening q) ps (r, c) in
@@ -103,18 +104,18 @@ keeps_pivot q most ps spent cells ys of_rows of_columns capacity room r c kept f
       few = omega (arith, length-append ps ((r, c) ∷ []));
       room = in_room;
       shows = λ _.
-        subst (Shows q ys (slice_set of_rows r (slice_index of_columns c)) (slice_set of_columns c (slice_index of_rows r))) (sym longer)
-        (shows_pivoted q cells ys of_rows of_columns d r c (kept.shows fresh) (omega (arith, can.row_in)) can.column_in kept.rows kept.labels new);
+          subst (Shows q ys (slice_set of_rows r (slice_index of_columns c)) (slice_set of_columns c (slice_index of_rows r))) (sym longer)
+          (shows_pivoted q cells ys of_rows of_columns d r c (kept.shows fresh) (omega (arith, can.row_in)) can.column_in kept.rows kept.labels new);
       numbers = λ _. numbers;
       narrow = λ _. AllNarrow-append q (opening q) ps (r, c) (kept.narrow fresh) narrow;
       failed = λ e. absurd (true_is_not_false spent fresh e);
     }
 
 pub keeps_spent : (q : Problem) (most : ℕ) (ps : List (ℕ × ℕ)) (spent : Bool) (cells ys : List Fraction) (of_rows of_columns : List ℕ) (capacity room r c i j : ℕ)
-  → KeepsReplay (record { problem = q; most = most; pivots = ps; spent = spent }) cells of_rows of_columns capacity
-  → spent ≡ false → IsPivot q (replay (opening q) ps) r c → length ps < most → most ≤ room → length ys ≡ length cells
-  → FailsFirstAt q (replay (opening q) ps) r c i j
-  → KeepsReplay (record { problem = q; most = most; pivots = ps ++ (r, c) ∷ []; spent = true }) ys of_rows of_columns room
+    → KeepsReplay (record { problem = q; most = most; pivots = ps; spent = spent }) cells of_rows of_columns capacity
+    → spent ≡ false → IsPivot q (replay (opening q) ps) r c → length ps < most → most ≤ room → length ys ≡ length cells
+    → FailsFirstAt q (replay (opening q) ps) r c i j
+    → KeepsReplay (record { problem = q; most = most; pivots = ps ++ (r, c) ∷ []; spent = true }) ys of_rows of_columns room
 keeps_spent q most ps spent cells ys of_rows of_columns capacity room r c i j kept fresh can few in_room size first = record {
   fits = kept.fits;
   size = size ∙ kept.size;

@@ -3,3 +3,4 @@ pub mod Dictionaries
 pub mod Pivots
 pub mod Cells
 pub mod Runs
+pub mod Opening

@@ -37,7 +37,7 @@ invariant_of-self c =
     let written = written_back s.cells.len c.pivot_rows-outcome.new.cells s.cells.items (omega (arith, s.cells.ok.0, size)) in
     let New : List Fraction → ℕ → ℕ → Type 0 = λ xs h w. (i j : ℕ) → i < h → j < w → pivot_place (placed xs w) c.args.row c.args.column i j ≡ Some (placed c.pivot_rows-outcome.new.cells w i j) in
     let new : New s.cells.items (height_of q) (width_of q) =
-        subst (λ w. New s.cells.items (height_of q) w) width (subst (λ h. New s.cells.items h (c.len-2.result + 1)) height (subst (λ xs. New xs c.len.result (c.len-2.result + 1)) before c.in-Ok.ensures.ok)) in
+    subst (λ w. New s.cells.items (height_of q) w) width (subst (λ h. New s.cells.items h (c.len-2.result + 1)) height (subst (λ xs. New xs c.len.result (c.len-2.result + 1)) before c.in-Ok.ensures.ok)) in
     let kept = keeps_pivot q s.most s.pivots.items s.spent s.cells.items c.pivot_rows-outcome.new.cells s.row_labels.items s.column_labels.items (vec_capacity s.pivots) (vec_capacity c.push_reserved.new.self) c.args.row c.args.column k fresh can few (omega (arith, k.room, c.push_reserved.ensures.capacity)) size c.in-Ok.ensures.lowest_terms new in
     let of_rows = c.deref_mut-in-Ok.ensures.value in
     let of_columns = c.deref_mut-in-Ok-2.ensures.value in
@@ -74,10 +74,10 @@ invariant_of-self-in-Err c =
     let written = written_back s.cells.len c.pivot_rows-outcome.new.cells s.cells.items (omega (arith, s.cells.ok.0, size)) in
     let First : List Fraction → ℕ → ℕ → Type 0 = λ xs h w. IsFirstWide h w (placed xs w) c.args.row c.args.column c.in-Err.place.row c.in-Err.place.column in
     let first : First s.cells.items (height_of q) (width_of q) =
-        subst (λ w. First s.cells.items (height_of q) w) width (subst (λ h. First s.cells.items h (c.len-2.result + 1)) height (subst (λ xs. First xs c.len.result (c.len-2.result + 1)) before c.in-Err.ensures.err)) in
+    subst (λ w. First s.cells.items (height_of q) w) width (subst (λ h. First s.cells.items h (c.len-2.result + 1)) height (subst (λ xs. First xs c.len.result (c.len-2.result + 1)) before c.in-Err.ensures.err)) in
     let same : Agree (height_of q) (width_of q) (placed s.cells.items (width_of q)) (replay (opening q) s.pivots.items).place = record { each = (k.shows fresh).places } in
     let fails : FailsFirstAt q (replay (opening q) s.pivots.items) c.args.row c.args.column c.in-Err.place.row c.in-Err.place.column =
-        first_wide_agrees (height_of q) (width_of q) _ _ c.args.row c.args.column c.in-Err.place.row c.in-Err.place.column same (omega (arith, can.row_in)) (omega (arith, can.column_in)) first in
+    first_wide_agrees (height_of q) (width_of q) _ _ c.args.row c.args.column c.in-Err.place.row c.in-Err.place.column same (omega (arith, can.row_in)) (omega (arith, can.column_in)) first in
     let kept = keeps_spent q s.most s.pivots.items s.spent s.cells.items c.pivot_rows-outcome.new.cells s.row_labels.items s.column_labels.items (vec_capacity s.pivots) (vec_capacity c.push_reserved.new.self) c.args.row c.args.column c.in-Err.place.row c.in-Err.place.column k fresh can few (omega (arith, k.room, c.push_reserved.ensures.capacity)) size fails in
     let Kept : List (ℕ × ℕ) → List Fraction → List ℕ → List ℕ → Type 0 = λ ps xs rs cs. KeepsReplay (record { problem = q; most = s.most; pivots = ps; spent = true }) xs rs cs (vec_capacity c.push_reserved.new.self) in
     moved Kept (sym c.push_reserved.ensures.items) (sym written) refl refl kept
@@ -106,7 +106,7 @@ returns-in-Ok-clause-ok c =
     let written = written_back s.cells.len c.pivot_rows-outcome.new.cells s.cells.items (omega (arith, s.cells.ok.0, size)) in
     let New : List Fraction → ℕ → ℕ → Type 0 = λ xs h w. (i j : ℕ) → i < h → j < w → pivot_place (placed xs w) c.args.row c.args.column i j ≡ Some (placed c.pivot_rows-outcome.new.cells w i j) in
     let new : New s.cells.items (height_of q) (width_of q) =
-        subst (λ w. New s.cells.items (height_of q) w) width (subst (λ h. New s.cells.items h (c.len-2.result + 1)) height (subst (λ xs. New xs c.len.result (c.len-2.result + 1)) before c.in-Ok.ensures.ok)) in
+    subst (λ w. New s.cells.items (height_of q) w) width (subst (λ h. New s.cells.items h (c.len-2.result + 1)) height (subst (λ xs. New xs c.len.result (c.len-2.result + 1)) before c.in-Ok.ensures.ok)) in
     rw (← c.self.view_is) (narrow_pivot q s.cells.items c.pivot_rows-outcome.new.cells s.row_labels.items s.column_labels.items (replay (opening q) s.pivots.items) c.args.row c.args.column (k.shows fresh) can new)
 
 pub returns-in-Err-clause-first : goal.returns-in-Err-clause-first
@@ -133,8 +133,8 @@ returns-in-Err-clause-first c =
     let written = written_back s.cells.len c.pivot_rows-outcome.new.cells s.cells.items (omega (arith, s.cells.ok.0, size)) in
     let First : List Fraction → ℕ → ℕ → Type 0 = λ xs h w. IsFirstWide h w (placed xs w) c.args.row c.args.column c.in-Err.place.row c.in-Err.place.column in
     let first : First s.cells.items (height_of q) (width_of q) =
-        subst (λ w. First s.cells.items (height_of q) w) width (subst (λ h. First s.cells.items h (c.len-2.result + 1)) height (subst (λ xs. First xs c.len.result (c.len-2.result + 1)) before c.in-Err.ensures.err)) in
+    subst (λ w. First s.cells.items (height_of q) w) width (subst (λ h. First s.cells.items h (c.len-2.result + 1)) height (subst (λ xs. First xs c.len.result (c.len-2.result + 1)) before c.in-Err.ensures.err)) in
     let same : Agree (height_of q) (width_of q) (placed s.cells.items (width_of q)) (replay (opening q) s.pivots.items).place = record { each = (k.shows fresh).places } in
     let fails : FailsFirstAt q (replay (opening q) s.pivots.items) c.args.row c.args.column c.in-Err.place.row c.in-Err.place.column =
-        first_wide_agrees (height_of q) (width_of q) _ _ c.args.row c.args.column c.in-Err.place.row c.in-Err.place.column same (omega (arith, can.row_in)) (omega (arith, can.column_in)) first in
+    first_wide_agrees (height_of q) (width_of q) _ _ c.args.row c.args.column c.in-Err.place.row c.in-Err.place.column same (omega (arith, can.row_in)) (omega (arith, can.column_in)) first in
     rw (← c.self.view_is) fails
