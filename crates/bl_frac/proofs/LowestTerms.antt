@@ -11,7 +11,7 @@ use Rattle.bl_frac.proofs.Signed.{signed_back, signed_of}
 use Rattle.bl_frac.proofs.Ratios.{not_below_zero, product_positive}
 use Rattle.bl_frac.proofs.Shares.{magnitude-neg, magnitude-share, gcd_of_sum, coprime_products}
 
-minus_natural : (n : ℕ) → pos 0 -ℤ pos n ≡ neg_ℤ (pos n)
+pub minus_natural : (n : ℕ) → pos 0 -ℤ pos n ≡ neg_ℤ (pos n)
 minus_natural n = omega (arith, ints)
 
 -- the parts of a fraction change places

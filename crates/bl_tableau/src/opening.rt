@@ -3,7 +3,7 @@ ghost use Rattle.std.specs.Prelude.{◌≡◌, ℕ, ◌+◌, ◌*◌, ◌^◌, �
 ghost use Rattle.bl_whole.specs.Within.{IsWithin};
 ghost use Rattle.bl_terms.specs.Bounds.{Fits};
 ghost use Rattle.bl_tableau.specs.Dictionaries.{whole_fraction, columns, opening_number};
-ghost use Rattle.bl_tableau.specs.Cells.{placed};
+ghost use Rattle.bl_tableau.specs.Cells.{placed, AreReduced};
 ghost use Rattle.bl_tableau.specs.Opening.{Appends, AreStarts};
 ghost use Rattle.bl_tableau.specs.Runs.{height_of, width_of};
 
@@ -116,6 +116,7 @@ pub(crate) fn opening_cells(alloc: Global, problem: &Problem<'_>) -> Result<Vec<
     ensures size { IfOk result (λ v. length v.items ≡ height_of problem.now * width_of problem.now) }
     ensures places { IfOk result (λ v. (i j : ℕ) → i < height_of problem.now → j < width_of problem.now →
         placed v.items (width_of problem.now) i j ≡ whole_fraction (opening_number problem.now i j)) }
+    ensures lowest_terms { IfOk result (λ v. AreReduced v.items) }
 {
     let starts = starts_of(alloc, problem)?;
     let rows = problem.rows().len();

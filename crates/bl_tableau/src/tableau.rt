@@ -5,6 +5,7 @@ ghost use Rattle.bl_tableau.specs.Dictionaries.{columns, cost_row};
 ghost use Rattle.bl_tableau.specs.Pivots.{IsNarrowPivot, AllNarrow};
 ghost use Rattle.bl_tableau.specs.Runs.{current, FailsFirstAt};
 
+use crate::opening::{numbers, opening_cells};
 use crate::rows::{Place, pivot_rows};
 use bl_bound::Problem;
 use bl_frac::Frac;
@@ -47,6 +48,32 @@ impl<'a> Model for Tableau<'a> {
 }
 
 impl<'a> Tableau<'a> {
+    /// The opening dictionary of a problem, with room for `most` pivots. No later call takes memory.
+    pub fn start(
+        alloc: Global,
+        problem: &'a Problem<'a>,
+        most: u32,
+    ) -> Result<Tableau<'a>, AllocError>
+        requires { Fits problem.now }
+        ensures { IfOk result (λ t. t ≡ record { problem = problem.now; most = most; pivots = []; spent = false }) }
+    {
+        let columns = problem.cost().len() as u32;
+        let rows = problem.rows().len() as u32 + columns + 1;
+        let cells = opening_cells(alloc, problem)?;
+        let row_labels = numbers(alloc, columns, rows)?;
+        let column_labels = numbers(alloc, 0, columns)?;
+        let pivots = Vec::with_capacity(alloc, most as usize)?;
+        Ok(Tableau {
+            problem,
+            cells,
+            row_labels,
+            column_labels,
+            pivots,
+            most,
+            spent: false,
+        })
+    }
+
     /// The right side of a row; that of the cost row comes after all others.
     pub fn right(&self, row: u32) -> Frac
         requires not_spent { self.now.spent ≡ false }
