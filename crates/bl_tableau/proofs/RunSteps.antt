@@ -5,7 +5,7 @@ use Rattle.std.proofs.lemmas.Bool.{cases_eq}
 use Rattle.std.proofs.Math.Seq.{take-append_seam}
 use Rattle.bl_terms.specs.Bounds.{Problem, Fits}
 use Rattle.bl_frac.specs.Fraction.{Fraction}
-use Rattle.bl_tableau.specs.Dictionaries.{Dictionary, whole_fraction, columns, cost_row, opening}
+use Rattle.bl_tableau.specs.Dictionaries.{Dictionary, whole_fraction, columns, cost_row, opening, opening_number}
 use Rattle.bl_tableau.specs.Cells.{cell, placed, AreReduced}
 use Rattle.bl_tableau.specs.Pivots.{share_of, remainder_of, pivot_place, pivoted, IsPivot, IsNarrowPivot, ComesBefore, IsFirstWide, replay, AllNarrow}
 use Rattle.bl_tableau.specs.Runs.{Run, height_of, width_of, FailsFirstAt, EndsWide, Shows, KeepsReplay}
@@ -136,3 +136,22 @@ shown q cells of_rows of_columns d w i j x h size ew hi hj e =
     let at : x ≡ slice_index_or cells (i * width_of q + j) x = e ∙ ap (λ n. slice_index_or cells (i * n + j) x) ew in
     let within = row_within i (height_of q) (width_of q) hi in
     read_cell cells (i * width_of q + j) x (omega (arith, within, size)) at ∙ h.places i j hi hj
+
+-- the opening dictionary is shown before any pivot
+pub keeps_opening : (q : Problem) (most : ℕ) (cells : List Fraction) (of_rows of_columns : List ℕ) (room : ℕ) → Fits q → length cells ≡ height_of q * width_of q → length of_rows ≡ height_of q → length of_columns ≡ columns q → most ≤ room
+  → ((i j : ℕ) → i < height_of q → j < width_of q → placed cells (width_of q) i j ≡ whole_fraction (opening_number q i j))
+  → ((i : ℕ) → i < height_of q → slice_index of_rows i ≡ columns q + i) → ((j : ℕ) → j < columns q → slice_index of_columns j ≡ j) → AreReduced cells
+  → KeepsReplay (record { problem = q; most = most; pivots = []; spent = false }) cells of_rows of_columns room
+unfolding opening
+keeps_opening q most cells of_rows of_columns room fits size rows labels enough places row_labels column_labels numbers = record {
+  fits = fits;
+  size = size;
+  rows = rows;
+  labels = labels;
+  few = omega arith;
+  room = enough;
+  shows = λ _. record { places = places; row_labels = row_labels; column_labels = column_labels };
+  numbers = λ _. numbers;
+  narrow = λ _. tt;
+  failed = λ e. absurd (true_is_not_false false refl e);
+}
