@@ -27,7 +27,7 @@ negative_size : (m : ℤ) → lt_z m (pos 0) ≡ true → 0 < unsigned_abs m
 negative_size (pos n) h = absurd (not_below_zero n h)
 negative_size (negsuc n) h = omega arith
 
-nonzero_size : (m : ℤ) → (m ≡ pos 0 → ⊥) → 0 < unsigned_abs m
+pub nonzero_size : (m : ℤ) → (m ≡ pos 0 → ⊥) → 0 < unsigned_abs m
 nonzero_size (pos zero) h = absurd (h refl)
 nonzero_size (pos (suc n)) h = omega arith
 nonzero_size (negsuc n) h = omega arith

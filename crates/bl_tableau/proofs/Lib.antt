@@ -2,3 +2,5 @@ pub mod Places
 pub mod RowSteps
 pub mod RunSteps
 pub mod OpeningSteps
+pub mod Scaling
+pub mod PivotLaw

@@ -4,3 +4,4 @@ pub mod Pivots
 pub mod Cells
 pub mod Runs
 pub mod Opening
+pub mod Solutions
