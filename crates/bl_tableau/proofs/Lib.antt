@@ -4,3 +4,4 @@ pub mod RunSteps
 pub mod OpeningSteps
 pub mod Scaling
 pub mod PivotLaw
+pub mod RowAlgebra

@@ -8,7 +8,8 @@ use Rattle.std.proofs.lemmas.Int.{ints}
 use Rattle.bl_whole.specs.Sums.{sum_below}
 use Rattle.bl_whole.specs.Identities.{Polynomial, variable, constant, plus, minus, times, value}
 use Rattle.bl_whole.proofs.IdentityLemmas.{identity}
-use Rattle.bl_whole.proofs.Products.{*ℤ_assoc, neg_ℤ-*ℤ, le_of_mul_le}
+use Rattle.bl_whole.proofs.Products.{*ℤ_assoc, neg_ℤ-*ℤ, *ℤ-neg_ℤ, le_of_mul_le}
+use Rattle.bl_frac.proofs.WholeLaws.{neg-neg}
 use Rattle.bl_frac.specs.Fraction.{Fraction, negated}
 use Rattle.bl_tableau.specs.Dictionaries.{whole_fraction}
 use Rattle.bl_tableau.specs.Solutions.{rational_sum, rational_difference, rational_product, rational_total, SameRational}
@@ -18,7 +19,7 @@ pub record IsOver (m : ℕ) (f : Fraction) (z : ℤ) : Type 0 where
   pub scaled : f.num *ℤ pos m ≡ z *ℤ pos f.den
 
 -- the numerator over a multiple of the denominator
-abbrev pub over : ℕ → Fraction → ℤ
+pub over : ℕ → Fraction → ℤ
 over m f = f.num *ℤ pos (m / f.den)
 
 swap3 : (x a b : ℤ) → (x *ℤ a) *ℤ b ≡ (x *ℤ b) *ℤ a
@@ -29,6 +30,7 @@ swap3 x a b =
     identity (x ∷ a ∷ b ∷ []) (times (times v0 v1) v2) (times (times v0 v2) v1) refl
 
 pub over_is : (m : ℕ) (f : Fraction) → f.den ∣ m → IsOver m f (over m f)
+unfolding over
 over_is m f h = record {
   scaled = ap (λ n. f.num *ℤ pos n) (sym (div-mul_cancel f.den h)) ∙ sym (*ℤ_assoc f.num (pos (m / f.den)) (pos f.den));
 }
@@ -149,3 +151,30 @@ dvd_multiple (suc n) f k h =
     elim (cases_eq k n) [
       inl e ↦ subst (λ i. f i ∣ multiple n f * f n) (sym e) (dvd-mul_left (f n) (multiple n f))
     | inr ne ↦ dvd-mul_right_of_dvd (f k) (dvd_multiple n f k (omega arith)) (f n) ]
+
+-- a factor other than 0 may be left out
+pub cancel_nonzero : (x y p : ℤ) → (p ≡ pos 0 → ⊥) → x *ℤ p ≡ y *ℤ p → x ≡ y
+cancel_nonzero x y (pos zero) h e = absurd (h refl)
+cancel_nonzero x y (pos (suc k)) h e = cancel x y (suc k) (omega arith) e
+cancel_nonzero x y (negsuc k) h e =
+    cancel x y (suc k) (omega arith) (
+      sym (neg-neg (x *ℤ pos (suc k))) ∙ ap neg_ℤ (sym (*ℤ-neg_ℤ x (pos (suc k)))) ∙ ap neg_ℤ e ∙ ap neg_ℤ (*ℤ-neg_ℤ y (pos (suc k))) ∙ neg-neg (y *ℤ pos (suc k)))
+
+-- sums whose terms are tied by one equation are tied by it
+pub sum_linear : (n : ℕ) (f g h : ℕ → ℤ) (m k e : ℤ) → ((j : ℕ) → j < n → f j *ℤ m ≡ g j *ℤ k -ℤ e *ℤ h j) → sum_below n f *ℤ m ≡ sum_below n g *ℤ k -ℤ e *ℤ sum_below n h
+sum_linear zero f g h m k e tied =
+    identity (m ∷ k ∷ e ∷ []) (times (constant (pos 0)) (variable 0)) (minus (times (constant (pos 0)) (variable 1)) (times (variable 2) (constant (pos 0)))) refl
+sum_linear (suc n) f g h m k e tied =
+    let v0 = variable 0 in
+    let v1 = variable 1 in
+    let v2 = variable 2 in
+    let v3 = variable 3 in
+    let v4 = variable 4 in
+    let v5 = variable 5 in
+    let sf = sum_below n f in
+    let sg = sum_below n g in
+    let sh = sum_below n h in
+    let split : (sf +ℤ f n) *ℤ m ≡ sf *ℤ m +ℤ f n *ℤ m = identity (sf ∷ f n ∷ m ∷ []) (times (plus v0 v1) v2) (plus (times v0 v2) (times v1 v2)) refl in
+    let join : (sg *ℤ k -ℤ e *ℤ sh) +ℤ (g n *ℤ k -ℤ e *ℤ h n) ≡ (sg +ℤ g n) *ℤ k -ℤ e *ℤ (sh +ℤ h n) =
+        identity (sg ∷ k ∷ e ∷ sh ∷ g n ∷ h n ∷ []) (plus (minus (times v0 v1) (times v2 v3)) (minus (times v4 v1) (times v2 v5))) (minus (times (plus v0 v4) v1) (times v2 (plus v3 v5))) refl in
+    split ∙ ap (λ z. z +ℤ f n *ℤ m) (sum_linear n f g h m k e (λ j l. tied j (omega arith))) ∙ ap (λ z. (sg *ℤ k -ℤ e *ℤ sh) +ℤ z) (tied n (omega arith)) ∙ join
