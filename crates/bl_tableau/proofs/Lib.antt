@@ -5,3 +5,5 @@ pub mod OpeningSteps
 pub mod Scaling
 pub mod PivotLaw
 pub mod RowAlgebra
+pub mod RowEquations
+pub mod Replays

@@ -139,10 +139,11 @@ pub multiple : ℕ → (ℕ → ℕ) → ℕ
 multiple zero f = 1
 multiple (suc n) f = multiple n f * f n
 
-pub multiple_positive : (n : ℕ) (f : ℕ → ℕ) → ((k : ℕ) → 0 < f k) → 0 < multiple n f
+pub multiple_positive : (n : ℕ) (f : ℕ → ℕ) → ((k : ℕ) → k < n → 0 < f k) → 0 < multiple n f
 unfolding multiple
 multiple_positive zero f h = omega arith
-multiple_positive (suc n) f h = omega (arith, mul-lt-mul_of_pos_right (multiple_positive n f h) (h n))
+multiple_positive (suc n) f h =
+    omega (arith, mul-lt-mul_of_pos_right (multiple_positive n f (λ k l. h k (omega arith))) (h n (omega arith)))
 
 pub dvd_multiple : (n : ℕ) (f : ℕ → ℕ) (k : ℕ) → k < n → f k ∣ multiple n f
 unfolding multiple
