@@ -7,3 +7,5 @@ pub mod PivotLaw
 pub mod RowAlgebra
 pub mod RowEquations
 pub mod Replays
+pub mod ReplayProof
+pub mod ReplayInduction

@@ -72,27 +72,30 @@ pub record ArePositive (q : Problem) (d : Dictionary) : Type 0 where
 positive_share : (q : Problem) (d : Dictionary) (r c j : ℕ) → IsNarrowPivot q d r c → ArePositive q d → j ≤ columns q → 0 < ((pivoted d r c).place r j).den
 positive_share q d r c j h all hj =
     elim (cases_eq j c) [
-      inl e ↦ subst (λ k. 0 < ((pivoted d r c).place r k).den) (sym e) (quotient_of-positive (whole_fraction (pos 1)) (d.place r c) _ (omega arith) h.possible.nonzero (own_share q d r c h))
-    | inr ne ↦ quotient_of-positive (d.place r j) (d.place r c) _ (all.each r j h.possible.row_in hj) h.possible.nonzero (other_share q d r c j h hj ne) ]
+      | inl e ↦ subst (λ k. 0 < ((pivoted d r c).place r k).den) (sym e) (quotient_of-positive (whole_fraction (pos 1)) (d.place r c) _ (omega arith) h.possible.nonzero (own_share q d r c h))
+      | inr ne ↦ quotient_of-positive (d.place r j) (d.place r c) _ (all.each r j h.possible.row_in hj) h.possible.nonzero (other_share q d r c j h hj ne)
+    ]
 
 positive_remainder : (q : Problem) (d : Dictionary) (r c i j : ℕ) → IsNarrowPivot q d r c → ArePositive q d → i ≤ cost_row q → j ≤ columns q → i ≢ r → 0 < ((pivoted d r c).place i j).den
 positive_remainder q d r c i j h all hi hj ne =
     let factor = all.each i c hi (omega (arith, h.possible.column_in)) in
     elim (cases_eq j c) [
-      inl e ↦
-        let w = own_remainder q d r c i h hi ne in
-        let t = product_of-positive (d.place i c) ((pivoted d r c).place r c) w.0 factor (positive_share q d r c c h all (omega (arith, h.possible.column_in))) w.1 in
-        let at : 0 < ((pivoted d r c).place i c).den = subst (λ f. 0 < f.den) (sym w.2) t in
-        subst (λ k. 0 < ((pivoted d r c).place i k).den) (sym e) at
-    | inr apart ↦
-        let w = other_remainder q d r c i j h hi hj ne apart in
-        let t = product_of-positive (d.place i c) ((pivoted d r c).place r j) w.0 factor (positive_share q d r c j h all hj) w.1 in
-        difference_of-positive (d.place i j) w.0 _ (all.each i j hi hj) t w.2 ]
+      | inl e ↦
+          let w = own_remainder q d r c i h hi ne in
+          let t = product_of-positive (d.place i c) ((pivoted d r c).place r c) w.0 factor (positive_share q d r c c h all (omega (arith, h.possible.column_in))) w.1 in
+          let at : 0 < ((pivoted d r c).place i c).den = subst (λ f. 0 < f.den) (sym w.2) t in
+          subst (λ k. 0 < ((pivoted d r c).place i k).den) (sym e) at
+      | inr apart ↦
+          let w = other_remainder q d r c i j h hi hj ne apart in
+          let t = product_of-positive (d.place i c) ((pivoted d r c).place r j) w.0 factor (positive_share q d r c j h all hj) w.1 in
+          difference_of-positive (d.place i j) w.0 _ (all.each i j hi hj) t w.2
+    ]
 
 pub positive_after : (q : Problem) (d : Dictionary) (r c : ℕ) → IsNarrowPivot q d r c → ArePositive q d → ArePositive q (pivoted d r c)
 positive_after q d r c h all = record {
   each = λ i j hi hj.
-    elim (cases_eq i r) [
-      inl e ↦ subst (λ k. 0 < ((pivoted d r c).place k j).den) (sym e) (positive_share q d r c j h all hj)
-    | inr ne ↦ positive_remainder q d r c i j h all hi hj ne ];
+      elim (cases_eq i r) [
+        | inl e ↦ subst (λ k. 0 < ((pivoted d r c).place k j).den) (sym e) (positive_share q d r c j h all hj)
+        | inr ne ↦ positive_remainder q d r c i j h all hi hj ne
+      ];
 }

@@ -19,7 +19,7 @@ use Rattle.bl_tableau.specs.Solutions.{rational_sum, rational_difference, ration
 use Rattle.bl_tableau.proofs.Scaling.{IsOver, over, over_is, over_difference, over_product, over_more, over_total, over_unique, over_same, over_negated, same_from_over, over_from_same, sum_linear}
 use Rattle.bl_tableau.proofs.PivotLaw.{own_share, other_share, own_remainder, other_remainder, ArePositive, positive_after}
 
-product_positive : (m n : ℕ) → 0 < m → 0 < n → 0 < m * n
+pub product_positive : (m n : ℕ) → 0 < m → 0 < n → 0 < m * n
 product_positive m n hm hn = omega (arith, mul-lt-mul_of_pos_right hm hn)
 
 -- every value has a positive denominator
@@ -50,15 +50,15 @@ left_side : (n : ℕ) (d : Dictionary) (x : ℕ → Fraction) (i m : ℕ) → Co
 left_side n d x i m h = over_more m m (x (d.row_label i)) (over m (x (d.row_label i))) (over_is m (x (d.row_label i)) h.row)
 
 right_side : (n : ℕ) (d : Dictionary) (x : ℕ → Fraction) (i m : ℕ) → CommonRow n d x i m
-  → IsOver (m * m) (rational_difference (d.place i n) (rational_total n (λ j. rational_product (d.place i j) (x (d.column_label j))))) (over m (d.place i n) *ℤ pos m -ℤ row_total n d x i m)
+    → IsOver (m * m) (rational_difference (d.place i n) (rational_total n (λ j. rational_product (d.place i j) (x (d.column_label j))))) (over m (d.place i n) *ℤ pos m -ℤ row_total n d x i m)
 right_side n d x i m h =
     over_difference (m * m) (d.place i n) (rational_total n (λ j. rational_product (d.place i j) (x (d.column_label j)))) (over m (d.place i n) *ℤ pos m) (row_total n d x i m)
     (over_more m m (d.place i n) (over m (d.place i n)) (over_is m (d.place i n) (h.places n (omega arith))))
     (over_total (m * m) n (λ j. rational_product (d.place i j) (x (d.column_label j))) (λ j. over m (d.place i j) *ℤ over m (x (d.column_label j)))
-      (λ j l. over_product m m (d.place i j) (x (d.column_label j)) (over m (d.place i j)) (over m (x (d.column_label j))) (over_is m (d.place i j) (h.places j (omega arith))) (over_is m (x (d.column_label j)) (h.values j l))))
+    (λ j l. over_product m m (d.place i j) (x (d.column_label j)) (over m (d.place i j)) (over m (x (d.column_label j))) (over_is m (d.place i j) (h.places j (omega arith))) (over_is m (x (d.column_label j)) (h.values j l))))
 
 right_positive : (q : Problem) (d : Dictionary) (x : ℕ → Fraction) (i : ℕ) → ArePositive q d → ValuesPositive x → i ≤ cost_row q
-  → 0 < (rational_difference (d.place i (columns q)) (rational_total (columns q) (λ j. rational_product (d.place i j) (x (d.column_label j))))).den
+    → 0 < (rational_difference (d.place i (columns q)) (rational_total (columns q) (λ j. rational_product (d.place i j) (x (d.column_label j))))).den
 right_positive q d x i all values hi =
     product_positive (d.place i (columns q)).den (rational_total (columns q) (λ j. rational_product (d.place i j) (x (d.column_label j)))).den (all.each i (columns q) hi (omega arith))
     (total_positive (columns q) (λ j. rational_product (d.place i j) (x (d.column_label j))) (λ j l. product_positive (d.place i j).den (x (d.column_label j)).den (all.each i j hi (omega arith)) (values.each (d.column_label j))))
@@ -74,7 +74,7 @@ row_from_equation q d x i m some h e =
 -- ---- the places after a pivot, over m
 
 -- a quotient over m
-quotient_over : (m : ℕ) (a p f : Fraction) → 0 < f.den → 0 < p.den → a.den ∣ m → p.den ∣ m → f.den ∣ m → 0 < a.den → quotient_of a p ≡ Some f → over m a *ℤ pos m ≡ over m f *ℤ over m p
+pub quotient_over : (m : ℕ) (a p f : Fraction) → 0 < f.den → 0 < p.den → a.den ∣ m → p.den ∣ m → f.den ∣ m → 0 < a.den → quotient_of a p ≡ Some f → over m a *ℤ pos m ≡ over m f *ℤ over m p
 quotient_over m a p f hf hp da dp df ha e =
     let same : SameRational a (rational_product f p) = record { cross = quotient_of-is a p f e } in
     let product = over_product m m f p (over m f) (over m p) (over_is m f df) (over_is m p dp) in
@@ -83,7 +83,7 @@ quotient_over m a p f hf hp da dp df ha e =
 one_over : (m : ℕ) → IsOver m (whole_fraction (pos 1)) (pos m)
 one_over m = record { scaled = omega (arith, ints) }
 
-one_quotient_over : (m : ℕ) (p f : Fraction) → 0 < f.den → 0 < p.den → p.den ∣ m → f.den ∣ m → quotient_of (whole_fraction (pos 1)) p ≡ Some f → pos m *ℤ pos m ≡ over m f *ℤ over m p
+pub one_quotient_over : (m : ℕ) (p f : Fraction) → 0 < f.den → 0 < p.den → p.den ∣ m → f.den ∣ m → quotient_of (whole_fraction (pos 1)) p ≡ Some f → pos m *ℤ pos m ≡ over m f *ℤ over m p
 one_quotient_over m p f hf hp dp df e =
     let same : SameRational (whole_fraction (pos 1)) (rational_product f p) = record { cross = quotient_of-is (whole_fraction (pos 1)) p f e } in
     let product = over_product m m f p (over m f) (over m p) (over_is m f df) (over_is m p dp) in
@@ -93,13 +93,13 @@ product_over : (m : ℕ) (e f t : Fraction) → 0 < e.den → 0 < f.den → e.de
 product_over m e f t he hf de df h =
     over_same (m * m) t (rational_product e f) (over m e *ℤ over m f) (product_positive e.den f.den he hf) (record { cross = product_of-is e f t h }) (over_product m m e f (over m e) (over m f) (over_is m e de) (over_is m f df))
 
-negated_over : (m : ℕ) (e f t v : Fraction) → 0 < e.den → 0 < f.den → 0 < v.den → e.den ∣ m → f.den ∣ m → v.den ∣ m → product_of e f ≡ Some t → v ≡ negated t → over m v *ℤ pos m ≡ neg_ℤ (over m e *ℤ over m f)
+pub negated_over : (m : ℕ) (e f t v : Fraction) → 0 < e.den → 0 < f.den → 0 < v.den → e.den ∣ m → f.den ∣ m → v.den ∣ m → product_of e f ≡ Some t → v ≡ negated t → over m v *ℤ pos m ≡ neg_ℤ (over m e *ℤ over m f)
 negated_over m e f t v he hf hv de df dv h is =
     let value : IsOver (m * m) v (neg_ℤ (over m e *ℤ over m f)) = subst (λ g. IsOver (m * m) g (neg_ℤ (over m e *ℤ over m f))) (sym is) (over_negated (m * m) t (over m e *ℤ over m f) (product_over m e f t he hf de df h)) in
     over_unique (m * m) v _ _ hv (over_more m m v (over m v) (over_is m v dv)) value
 
-difference_over : (m : ℕ) (e f t x v : Fraction) → 0 < e.den → 0 < f.den → 0 < x.den → 0 < v.den → e.den ∣ m → f.den ∣ m → x.den ∣ m → v.den ∣ m → product_of e f ≡ Some t → difference_of x t ≡ Some v
-  → over m v *ℤ pos m ≡ over m x *ℤ pos m -ℤ over m e *ℤ over m f
+pub difference_over : (m : ℕ) (e f t x v : Fraction) → 0 < e.den → 0 < f.den → 0 < x.den → 0 < v.den → e.den ∣ m → f.den ∣ m → x.den ∣ m → v.den ∣ m → product_of e f ≡ Some t → difference_of x t ≡ Some v
+    → over m v *ℤ pos m ≡ over m x *ℤ pos m -ℤ over m e *ℤ over m f
 difference_over m e f t x v he hf hx hv de df dx dv h k =
     let product = product_over m e f t he hf de df h in
     let taken = over_difference (m * m) x t (over m x *ℤ pos m) (over m e *ℤ over m f) (over_more m m x (over m x) (over_is m x dx)) product in

@@ -139,9 +139,9 @@ shown q cells of_rows of_columns d w i j x h size ew hi hj e =
 
 -- the opening dictionary is shown before any pivot
 pub keeps_opening : (q : Problem) (most : ℕ) (cells : List Fraction) (of_rows of_columns : List ℕ) (room : ℕ) → Fits q → length cells ≡ height_of q * width_of q → length of_rows ≡ height_of q → length of_columns ≡ columns q → most ≤ room
-  → ((i j : ℕ) → i < height_of q → j < width_of q → placed cells (width_of q) i j ≡ whole_fraction (opening_number q i j))
-  → ((i : ℕ) → i < height_of q → slice_index of_rows i ≡ columns q + i) → ((j : ℕ) → j < columns q → slice_index of_columns j ≡ j) → AreReduced cells
-  → KeepsReplay (record { problem = q; most = most; pivots = []; spent = false }) cells of_rows of_columns room
+    → ((i j : ℕ) → i < height_of q → j < width_of q → placed cells (width_of q) i j ≡ whole_fraction (opening_number q i j))
+    → ((i : ℕ) → i < height_of q → slice_index of_rows i ≡ columns q + i) → ((j : ℕ) → j < columns q → slice_index of_columns j ≡ j) → AreReduced cells
+    → KeepsReplay (record { problem = q; most = most; pivots = []; spent = false }) cells of_rows of_columns room
 unfolding opening
 keeps_opening q most cells of_rows of_columns room fits size rows labels enough places row_labels column_labels numbers = record {
   fits = fits;

@@ -44,9 +44,9 @@ sum_scaled a b c d m x y ha hc =
     let vd = variable 3 in
     let vm = variable 4 in
     let first : (a *ℤ d +ℤ c *ℤ b) *ℤ m ≡ (a *ℤ m) *ℤ d +ℤ (c *ℤ m) *ℤ b =
-        identity (a ∷ b ∷ c ∷ d ∷ m ∷ []) (times (plus (times va vd) (times vc vb)) vm) (plus (times (times va vm) vd) (times (times vc vm) vb)) refl in
+    identity (a ∷ b ∷ c ∷ d ∷ m ∷ []) (times (plus (times va vd) (times vc vb)) vm) (plus (times (times va vm) vd) (times (times vc vm) vb)) refl in
     let last : (x *ℤ b) *ℤ d +ℤ (y *ℤ d) *ℤ b ≡ (x +ℤ y) *ℤ (b *ℤ d) =
-        identity (x ∷ b ∷ y ∷ d ∷ []) (plus (times (times va vb) vd) (times (times vc vd) vb)) (times (plus va vc) (times vb vd)) refl in
+    identity (x ∷ b ∷ y ∷ d ∷ []) (plus (times (times va vb) vd) (times (times vc vd) vb)) (times (plus va vc) (times vb vd)) refl in
     first ∙ ap (λ z. z *ℤ d +ℤ (c *ℤ m) *ℤ b) ha ∙ ap (λ z. (x *ℤ b) *ℤ d +ℤ z *ℤ b) hc ∙ last
 
 difference_scaled : (a b c d m x y : ℤ) → a *ℤ m ≡ x *ℤ b → c *ℤ m ≡ y *ℤ d → (a *ℤ d -ℤ c *ℤ b) *ℤ m ≡ (x -ℤ y) *ℤ (b *ℤ d)
@@ -57,9 +57,9 @@ difference_scaled a b c d m x y ha hc =
     let vd = variable 3 in
     let vm = variable 4 in
     let first : (a *ℤ d -ℤ c *ℤ b) *ℤ m ≡ (a *ℤ m) *ℤ d -ℤ (c *ℤ m) *ℤ b =
-        identity (a ∷ b ∷ c ∷ d ∷ m ∷ []) (times (minus (times va vd) (times vc vb)) vm) (minus (times (times va vm) vd) (times (times vc vm) vb)) refl in
+    identity (a ∷ b ∷ c ∷ d ∷ m ∷ []) (times (minus (times va vd) (times vc vb)) vm) (minus (times (times va vm) vd) (times (times vc vm) vb)) refl in
     let last : (x *ℤ b) *ℤ d -ℤ (y *ℤ d) *ℤ b ≡ (x -ℤ y) *ℤ (b *ℤ d) =
-        identity (x ∷ b ∷ y ∷ d ∷ []) (minus (times (times va vb) vd) (times (times vc vd) vb)) (times (minus va vc) (times vb vd)) refl in
+    identity (x ∷ b ∷ y ∷ d ∷ []) (minus (times (times va vb) vd) (times (times vc vd) vb)) (times (minus va vc) (times vb vd)) refl in
     first ∙ ap (λ z. z *ℤ d -ℤ (c *ℤ m) *ℤ b) ha ∙ ap (λ z. (x *ℤ b) *ℤ d -ℤ z *ℤ b) hc ∙ last
 
 product_scaled : (a b c d m k x y : ℤ) → a *ℤ m ≡ x *ℤ b → c *ℤ k ≡ y *ℤ d → (a *ℤ c) *ℤ (m *ℤ k) ≡ (x *ℤ y) *ℤ (b *ℤ d)
@@ -69,9 +69,9 @@ product_scaled a b c d m k x y ha hc =
     let v2 = variable 2 in
     let v3 = variable 3 in
     let first : (a *ℤ c) *ℤ (m *ℤ k) ≡ (a *ℤ m) *ℤ (c *ℤ k) =
-        identity (a ∷ c ∷ m ∷ k ∷ []) (times (times v0 v1) (times v2 v3)) (times (times v0 v2) (times v1 v3)) refl in
+    identity (a ∷ c ∷ m ∷ k ∷ []) (times (times v0 v1) (times v2 v3)) (times (times v0 v2) (times v1 v3)) refl in
     let last : (x *ℤ b) *ℤ (y *ℤ d) ≡ (x *ℤ y) *ℤ (b *ℤ d) =
-        identity (x ∷ b ∷ y ∷ d ∷ []) (times (times v0 v1) (times v2 v3)) (times (times v0 v2) (times v1 v3)) refl in
+    identity (x ∷ b ∷ y ∷ d ∷ []) (times (times v0 v1) (times v2 v3)) (times (times v0 v2) (times v1 v3)) refl in
     first ∙ ap (λ z. z *ℤ (c *ℤ k)) ha ∙ ap (λ z. (x *ℤ b) *ℤ z) hc ∙ last
 
 pub over_sum : (m : ℕ) (f g : Fraction) (x y : ℤ) → IsOver m f x → IsOver m g y → IsOver m (rational_sum f g) (x +ℤ y)
@@ -109,13 +109,13 @@ cancel x y k h e =
 pub same_from_over : (m : ℕ) (f g : Fraction) (x y : ℤ) → 0 < m → IsOver m f x → IsOver m g y → x ≡ y → SameRational f g
 same_from_over m f g x y some hf hg e = record {
   cross = cancel (f.num *ℤ pos g.den) (g.num *ℤ pos f.den) m some (
-    swap3 f.num (pos g.den) (pos m) ∙ ap (λ z. z *ℤ pos g.den) hf.scaled ∙ ap (λ z. (z *ℤ pos f.den) *ℤ pos g.den) e ∙ swap3 y (pos f.den) (pos g.den) ∙ ap (λ z. z *ℤ pos f.den) (sym hg.scaled) ∙ swap3 g.num (pos m) (pos f.den));
+      swap3 f.num (pos g.den) (pos m) ∙ ap (λ z. z *ℤ pos g.den) hf.scaled ∙ ap (λ z. (z *ℤ pos f.den) *ℤ pos g.den) e ∙ swap3 y (pos f.den) (pos g.den) ∙ ap (λ z. z *ℤ pos f.den) (sym hg.scaled) ∙ swap3 g.num (pos m) (pos f.den));
 }
 
 pub over_from_same : (m : ℕ) (f g : Fraction) (x y : ℤ) → 0 < f.den → 0 < g.den → IsOver m f x → IsOver m g y → SameRational f g → x ≡ y
 over_from_same m f g x y some other hf hg e =
     cancel x y f.den some (cancel (x *ℤ pos f.den) (y *ℤ pos f.den) g.den other (
-      ap (λ z. z *ℤ pos g.den) (sym hf.scaled) ∙ swap3 f.num (pos m) (pos g.den) ∙ ap (λ z. z *ℤ pos m) e.cross ∙ swap3 g.num (pos f.den) (pos m) ∙ ap (λ z. z *ℤ pos f.den) hg.scaled ∙ swap3 y (pos g.den) (pos f.den)))
+    ap (λ z. z *ℤ pos g.den) (sym hf.scaled) ∙ swap3 f.num (pos m) (pos g.den) ∙ ap (λ z. z *ℤ pos m) e.cross ∙ swap3 g.num (pos f.den) (pos m) ∙ ap (λ z. z *ℤ pos f.den) hg.scaled ∙ swap3 y (pos g.den) (pos f.den)))
 
 -- a whole number over a denominator is one number
 pub over_unique : (m : ℕ) (f : Fraction) (x y : ℤ) → 0 < f.den → IsOver m f x → IsOver m f y → x ≡ y
@@ -125,7 +125,7 @@ over_unique m f x y some h k = cancel x y f.den some (sym h.scaled ∙ k.scaled)
 pub over_same : (m : ℕ) (f g : Fraction) (z : ℤ) → 0 < g.den → SameRational f g → IsOver m g z → IsOver m f z
 over_same m f g z some e h = record {
   scaled = cancel (f.num *ℤ pos m) (z *ℤ pos f.den) g.den some (
-    swap3 f.num (pos m) (pos g.den) ∙ ap (λ w. w *ℤ pos m) e.cross ∙ swap3 g.num (pos f.den) (pos m) ∙ ap (λ w. w *ℤ pos f.den) h.scaled ∙ swap3 z (pos g.den) (pos f.den));
+      swap3 f.num (pos m) (pos g.den) ∙ ap (λ w. w *ℤ pos m) e.cross ∙ swap3 g.num (pos f.den) (pos m) ∙ ap (λ w. w *ℤ pos f.den) h.scaled ∙ swap3 z (pos g.den) (pos f.den));
 }
 
 pub over_negated : (m : ℕ) (f : Fraction) (z : ℤ) → IsOver m f z → IsOver m (negated f) (neg_ℤ z)
@@ -150,8 +150,9 @@ unfolding multiple
 dvd_multiple zero f k h = absurd (omega arith)
 dvd_multiple (suc n) f k h =
     elim (cases_eq k n) [
-      inl e ↦ subst (λ i. f i ∣ multiple n f * f n) (sym e) (dvd-mul_left (f n) (multiple n f))
-    | inr ne ↦ dvd-mul_right_of_dvd (f k) (dvd_multiple n f k (omega arith)) (f n) ]
+      | inl e ↦ subst (λ i. f i ∣ multiple n f * f n) (sym e) (dvd-mul_left (f n) (multiple n f))
+      | inr ne ↦ dvd-mul_right_of_dvd (f k) (dvd_multiple n f k (omega arith)) (f n)
+    ]
 
 -- a factor other than 0 may be left out
 pub cancel_nonzero : (x y p : ℤ) → (p ≡ pos 0 → ⊥) → x *ℤ p ≡ y *ℤ p → x ≡ y
@@ -159,7 +160,7 @@ cancel_nonzero x y (pos zero) h e = absurd (h refl)
 cancel_nonzero x y (pos (suc k)) h e = cancel x y (suc k) (omega arith) e
 cancel_nonzero x y (negsuc k) h e =
     cancel x y (suc k) (omega arith) (
-      sym (neg-neg (x *ℤ pos (suc k))) ∙ ap neg_ℤ (sym (*ℤ-neg_ℤ x (pos (suc k)))) ∙ ap neg_ℤ e ∙ ap neg_ℤ (*ℤ-neg_ℤ y (pos (suc k))) ∙ neg-neg (y *ℤ pos (suc k)))
+    sym (neg-neg (x *ℤ pos (suc k))) ∙ ap neg_ℤ (sym (*ℤ-neg_ℤ x (pos (suc k)))) ∙ ap neg_ℤ e ∙ ap neg_ℤ (*ℤ-neg_ℤ y (pos (suc k))) ∙ neg-neg (y *ℤ pos (suc k)))
 
 -- sums whose terms are tied by one equation are tied by it
 pub sum_linear : (n : ℕ) (f g h : ℕ → ℤ) (m k e : ℤ) → ((j : ℕ) → j < n → f j *ℤ m ≡ g j *ℤ k -ℤ e *ℤ h j) → sum_below n f *ℤ m ≡ sum_below n g *ℤ k -ℤ e *ℤ sum_below n h
@@ -177,5 +178,5 @@ sum_linear (suc n) f g h m k e tied =
     let sh = sum_below n h in
     let split : (sf +ℤ f n) *ℤ m ≡ sf *ℤ m +ℤ f n *ℤ m = identity (sf ∷ f n ∷ m ∷ []) (times (plus v0 v1) v2) (plus (times v0 v2) (times v1 v2)) refl in
     let join : (sg *ℤ k -ℤ e *ℤ sh) +ℤ (g n *ℤ k -ℤ e *ℤ h n) ≡ (sg +ℤ g n) *ℤ k -ℤ e *ℤ (sh +ℤ h n) =
-        identity (sg ∷ k ∷ e ∷ sh ∷ g n ∷ h n ∷ []) (plus (minus (times v0 v1) (times v2 v3)) (minus (times v4 v1) (times v2 v5))) (minus (times (plus v0 v4) v1) (times v2 (plus v3 v5))) refl in
+    identity (sg ∷ k ∷ e ∷ sh ∷ g n ∷ h n ∷ []) (plus (minus (times v0 v1) (times v2 v3)) (minus (times v4 v1) (times v2 v5))) (minus (times (plus v0 v4) v1) (times v2 (plus v3 v5))) refl in
     split ∙ ap (λ z. z +ℤ f n *ℤ m) (sum_linear n f g h m k e (λ j l. tied j (omega arith))) ∙ ap (λ z. (sg *ℤ k -ℤ e *ℤ sh) +ℤ z) (tied n (omega arith)) ∙ join

@@ -1,6 +1,7 @@
 //! The dictionary of the dual simplex method over exact fractions, and its pivots.
 #![tactic(auto)]
 
+pub mod laws;
 mod opening;
 mod place;
 mod rows;
