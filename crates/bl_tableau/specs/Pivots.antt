@@ -1,5 +1,5 @@
 -- The pivot: what stands at each place after it, where it first passes 128 bits, and which pivots are legal.
-use Rattle.std.specs.Prelude.{◌≡◌, ◌≢◌, ℕ, zero, suc, ◌+◌, ◌<◌, ◌≤◌, ◌⊎◌, ◌==◌, if◌then◌else◌, Bool, true, false, Option, Some, None, IsSome, unwrap_or, option_map, option_and_then, ℤ, pos, ◌<ℤ◌, List, [], ◌∷◌, ◌++◌, length}
+use Rattle.std.specs.Prelude.{◌≡◌, ◌≢◌, ℕ, zero, suc, ◌+◌, ◌<◌, ◌≤◌, ◌⊎◌, ◌==◌, if◌then◌else◌, Bool, true, false, Option, Some, None, IsSome, unwrap_or, option_map, option_and_then, MatchOption, ℤ, pos, ◌<ℤ◌, List, [], ◌∷◌, ◌++◌, length}
 use Rattle.std.specs.declared.cmp.Ordering.{Ordering}
 use Rattle.bl_terms.specs.Bounds.{Problem}
 use Rattle.bl_frac.specs.Fraction.{Fraction, negated, product_of, quotient_of, difference_of, order_of}
@@ -73,37 +73,42 @@ AllNarrow q d (p ∷ ps) = IsNarrowPivot q d p.0 p.1 × AllNarrow q (pivoted d p
 
 -- ---- the legal pivot: a step of the dual simplex method
 
--- cost entry divided by row entry, at row r and column j
-abbrev pub ratio_of : Problem → Dictionary → ℕ → ℕ → Option Fraction
-ratio_of q d r j = quotient_of (d.place (cost_row q) j) (d.place r j)
+-- cost entry divided by row entry at column j
+abbrev pub ratio_of : (ℕ → Fraction) → (ℕ → Fraction) → ℕ → Option Fraction
+ratio_of costs entries j = quotient_of (costs j) (entries j)
 
--- row r may leave: it isn't the cost row, and its right side is negative
-pub record CanLeave (q : Problem) (d : Dictionary) (r : ℕ) : Type 0 where
-  pub row_in : r < cost_row q
-  pub negative : (d.place r (columns q)).num <ℤ pos 0
+-- column j is a candidate: its entry in the row is negative
+pub record IsCandidate (n : ℕ) (entries : ℕ → Fraction) (j : ℕ) : Type 0 where
+  pub column_in : j < n
+  pub negative : (entries j).num <ℤ pos 0
 
--- column j is a candidate in row r: its entry there is negative
-pub record IsCandidate (q : Problem) (d : Dictionary) (r j : ℕ) : Type 0 where
-  pub column_in : j < columns q
-  pub negative : (d.place r j).num <ℤ pos 0
+-- the ratio of column c is less than that of column j, or the two are equal and c has the lesser label
+abbrev pub GoesFirst : ℕ → ℕ → Fraction → Fraction → Type 0
+GoesFirst label label' ratio ratio' =
+    (order_of ratio ratio' ≡ Ordering.Less) ⊎ ((order_of ratio ratio' ≡ Ordering.Equal) × (label < label'))
 
--- the ratio at c is less than the one at j, or the two are equal and c has the lesser label
-abbrev pub GoesFirst : Dictionary → ℕ → ℕ → Fraction → Fraction → Type 0
-GoesFirst d c j least other =
-    (order_of least other ≡ Ordering.Less) ⊎ ((order_of least other ≡ Ordering.Equal) × (d.column_label c < d.column_label j))
+-- column j has a ratio, and is c or comes after c
+abbrev pub StaysBehind : (ℕ → ℕ) → ℕ → ℕ → Fraction → Option Fraction → Type 0
+StaysBehind label c j least ratio = MatchOption ratio ⊥ (λ y. (j ≡ c) ⊎ GoesFirst (label c) (label j) least y)
 
--- c has the least ratio among the candidates of row r, where all their ratios are there
-pub record HasLeastRatio (q : Problem) (d : Dictionary) (r c : ℕ) : Type 0 where
-  pub all_there : (j : ℕ) → IsCandidate q d r j → IsSome (ratio_of q d r j)
-  pub least : (j : ℕ) (x y : Fraction) → IsCandidate q d r j → j ≢ c → ratio_of q d r c ≡ Some x → ratio_of q d r j ≡ Some y → GoesFirst d c j x y
+-- the ratio of c is the least one of the candidates, all of which have one
+pub record HasLeastRatio (n : ℕ) (costs entries : ℕ → Fraction) (label : ℕ → ℕ) (c : ℕ) : Type 0 where
+  pub least : Fraction
+  pub ratio : ratio_of costs entries c ≡ Some least
+  pub others : (j : ℕ) → IsCandidate n entries j → StaysBehind label c j least (ratio_of costs entries j)
 
--- c is the first candidate of row r whose ratio passes 128 bits
-pub record IsFirstWideRatio (q : Problem) (d : Dictionary) (r c : ℕ) : Type 0 where
-  pub wide : ratio_of q d r c ≡ None
-  pub earlier : (j : ℕ) → IsCandidate q d r j → j < c → IsSome (ratio_of q d r j)
+-- c is the first candidate whose ratio passes 128 bits
+pub record IsFirstWideRatio (n : ℕ) (costs entries : ℕ → Fraction) (c : ℕ) : Type 0 where
+  pub wide : ratio_of costs entries c ≡ None
+  pub earlier : (j : ℕ) → IsCandidate n entries j → j < c → IsSome (ratio_of costs entries j)
 
--- the pivot at (r, c) is legal
+-- the row leaves for c: it has the least ratio, or its ratio is the first to pass 128 bits
+abbrev pub IsChosen : ℕ → (ℕ → Fraction) → (ℕ → Fraction) → (ℕ → ℕ) → ℕ → Type 0
+IsChosen n costs entries label c = HasLeastRatio n costs entries label c ⊎ IsFirstWideRatio n costs entries c
+
+-- the pivot at (r, c) is legal: r isn't the cost row, its right side is negative, and c is the candidate that is chosen
 pub record IsLegal (q : Problem) (d : Dictionary) (r c : ℕ) : Type 0 where
-  pub leaves : CanLeave q d r
-  pub candidate : IsCandidate q d r c
-  pub chosen : HasLeastRatio q d r c ⊎ IsFirstWideRatio q d r c
+  pub row_in : r < cost_row q
+  pub leaves : (d.place r (columns q)).num <ℤ pos 0
+  pub candidate : IsCandidate (columns q) (d.place r) c
+  pub chosen : IsChosen (columns q) (d.place (cost_row q)) (d.place r) d.column_label c

@@ -2,6 +2,7 @@
 #![tactic(auto)]
 
 pub mod laws;
+mod legal;
 mod opening;
 mod place;
 mod rows;
