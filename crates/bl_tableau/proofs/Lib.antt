@@ -9,3 +9,4 @@ pub mod RowEquations
 pub mod Replays
 pub mod ReplayProof
 pub mod ReplayInduction
+pub mod Choices

@@ -1,10 +1,12 @@
 //! The tableau: a dictionary in memory, with the pivots that led to it.
-ghost use Rattle.std.specs.Prelude.{◌≡◌, ◌≢◌, ℕ, ◌<◌, ◌≤◌, pos, false, [], ◌∷◌, ◌++◌, length, OnOk, IfOk, IfErr, is_err, slice_index, slice_set};
+ghost use Rattle.std.specs.Prelude.{◌≡◌, ◌≢◌, ◌↔◌, ℕ, IsTrue, ◌<◌, ◌≤◌, pos, false, [], ◌∷◌, ◌++◌, length, OnOk, IfOk, IfErr, is_err, slice_index, slice_set};
 ghost use Rattle.bl_terms.specs.Bounds.{Fits};
+ghost use Rattle.bl_tableau.specs.Cells.{cell};
 ghost use Rattle.bl_tableau.specs.Dictionaries.{columns, cost_row};
-ghost use Rattle.bl_tableau.specs.Pivots.{IsNarrowPivot, AllNarrow};
+ghost use Rattle.bl_tableau.specs.Pivots.{IsNarrowPivot, IsLegal};
 ghost use Rattle.bl_tableau.specs.Runs.{current, FailsFirstAt};
 
+use crate::legal::{is_chosen, is_negative};
 use crate::opening::{numbers, opening_cells};
 use crate::rows::{Place, pivot_rows};
 use bl_bound::Problem;
@@ -93,6 +95,40 @@ impl<'a> Tableau<'a> {
     {
         let width = self.column_labels.len() + 1;
         self.cells[row as usize * width + column as usize]
+    }
+
+    // The entries of a row.
+    fn entries(&self, row: u32) -> &[Frac]
+        requires not_spent { self.now.spent ≡ false }
+        requires row_in { row ≤ cost_row self.now.problem }
+        ensures size { length result.now ≡ columns self.now.problem }
+        ensures places { (j : ℕ) → j < columns self.now.problem → cell result.now j ≡ (current self.now).place row j }
+    {
+        let columns = self.column_labels.len();
+        let start = row as usize * (columns + 1);
+        &self.cells[start..start + columns]
+    }
+
+    /// Whether the pivot at a row and a column is a legal step of the dual simplex method.
+    pub fn is_legal(&self, row: u32, column: u32) -> bool
+        requires not_spent { self.now.spent ≡ false }
+        requires row_in { row ≤ cost_row self.now.problem }
+        requires column_in { column < columns self.now.problem }
+        ensures { IsTrue result ↔ IsLegal self.now.problem (current self.now) row column }
+    {
+        let cost_row = (self.row_labels.len() - 1) as u32;
+        if row == cost_row
+            || !is_negative(self.right(row))
+            || !is_negative(self.entry(row, column))
+        {
+            return false;
+        }
+        is_chosen(
+            self.entries(cost_row),
+            self.entries(row),
+            &self.column_labels,
+            column as usize,
+        )
     }
 
     /// The number of the variable of a row.
