@@ -2,6 +2,7 @@
 #![tactic(auto)]
 
 mod problem;
+mod sizes;
 #[cfg(test)]
 mod tests;
 

@@ -1,8 +1,9 @@
 //! A problem, how it is built and how it is read.
-ghost use Rattle.std.specs.Prelude.{◌≡◌, [], ◌∷◌, ◌++◌, length, OnOk, OnErr};
+ghost use Rattle.std.specs.Prelude.{◌≡◌, ◌↔◌, IsTrue, [], ◌∷◌, ◌++◌, length, OnOk, OnErr};
 ghost use Rattle.bl_terms.specs.Points.{IsArea};
-ghost use Rattle.bl_terms.specs.Bounds.{IsProblem};
+ghost use Rattle.bl_terms.specs.Bounds.{IsProblem, Fits};
 
+use crate::sizes::{are_within, rows_fit};
 use std::alloc::{AllocError, Global};
 use std::marker::Model;
 
@@ -82,6 +83,20 @@ impl<'a> Problem<'a> {
     {
         self.rows.push(ProblemRow { coef, right })?;
         Ok(())
+    }
+
+    /// Whether the problem is small enough for exact arithmetic in 128 bits: at most 120 columns and 465 rows,
+    /// coefficients of magnitude at most `2^36`, right sides of at most `2^62`, costs and bounds of at most ten
+    /// millions.
+    pub fn fits(&self) -> bool
+        ensures { IsTrue result ↔ Fits self.now }
+    {
+        self.lo.len() <= 120
+            && self.rows.len() <= 465
+            && rows_fit(&self.rows)
+            && are_within(self.cost, 10_000_000)
+            && are_within(self.lo, 10_000_000)
+            && are_within(self.hi, 10_000_000)
     }
 
     /// The rows, in the order in which they were added.

@@ -15,6 +15,9 @@ fn rows_stay_in_order(rt: HostRuntime) -> Result<(), Fail> {
         assert_eq!(rt; row.coef(), coef.as_slice());
         assert_eq!(rt; row.right(), right);
     }
+    assert!(rt; problem.fits());
+    problem.row(&coefs[0], (1 << 62) + 1)?;
+    assert!(rt; !problem.fits());
     assert_eq!(rt; problem.cost(), cost.as_slice());
     assert_eq!(rt; problem.lo(), lo.as_slice());
     assert_eq!(rt; problem.hi(), hi.as_slice());

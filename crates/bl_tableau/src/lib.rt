@@ -7,5 +7,7 @@ mod opening;
 mod place;
 mod rows;
 mod tableau;
+#[cfg(test)]
+mod tests;
 
 pub use tableau::{Tableau, Wide};

@@ -26,8 +26,8 @@ pub struct Wide {
 /// dictionary. Contracts see it as the run of pivots: until a pivot passes 128 bits it shows their replay. Then it
 /// is spent, and tells its pivots alone, the last of which is the one that failed.
 #[derive(Debug, Drop)]
-pub struct Tableau<'a> {
-    problem: &'a Problem<'a>,
+pub struct Tableau<'p, 'a> {
+    problem: &'p Problem<'a>,
     cells: Vec<Frac>,
     row_labels: Vec<u32>,
     column_labels: Vec<u32>,
@@ -36,7 +36,7 @@ pub struct Tableau<'a> {
     spent: bool,
 }
 
-impl<'a> Model for Tableau<'a> {
+impl<'p, 'a> Model for Tableau<'p, 'a> {
     ghost use Rattle.std.specs.Prelude.{vec_capacity};
     ghost use Rattle.bl_tableau.specs.Runs.{Run, KeepsReplay};
 
@@ -49,13 +49,13 @@ impl<'a> Model for Tableau<'a> {
         t.cells.items t.row_labels.items t.column_labels.items (vec_capacity t.pivots) };
 }
 
-impl<'a> Tableau<'a> {
+impl<'p, 'a> Tableau<'p, 'a> {
     /// The opening dictionary of a problem, with room for `most` pivots. No later call takes memory.
     pub fn start(
         alloc: Global,
-        problem: &'a Problem<'a>,
+        problem: &'p Problem<'a>,
         most: u32,
-    ) -> Result<Tableau<'a>, AllocError>
+    ) -> Result<Tableau<'p, 'a>, AllocError>
         requires { Fits problem.now }
         ensures { IfOk result (λ t. t ≡ record { problem = problem.now; most = most; pivots = []; spent = false }) }
     {

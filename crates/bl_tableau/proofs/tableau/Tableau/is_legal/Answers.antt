@@ -35,6 +35,7 @@ returns c =
       same_labels = λ j l. ap (λ xs. slice_index xs j) c.deref.ensures.value ∙ labels j l;
     } in
     let agree = chosen_agrees n _ _ _ _ _ _ c.args.column same c.requires.column_in in
-    let Chosen : ℕ → Type 0 = λ m. IsChosen m (cell c.entries.result.now) (cell c.entries-2.result.now) (slice_index c.deref.result.now) c.args.column in
-    (λ h. record { row_in = omega (arith, c.requires.row_in); leaves = leaves; candidate = candidate; chosen = agree.0 (subst Chosen c.entries-2.ensures.size (c.is_chosen.ensures.0 h)) },
-     λ l. c.is_chosen.ensures.1 (subst Chosen (sym c.entries-2.ensures.size) (agree.1 l.chosen)))
+    let Chosen : ℕ → Type 0 = λ m. IsChosen m (cell c.entries.result.now) (cell c.entries-2.result.now) (slice_index c.deref.result.now) c.args.column in (
+      λ h. record { row_in = omega (arith, c.requires.row_in); leaves = leaves; candidate = candidate; chosen = agree.0 (subst Chosen c.entries-2.ensures.size (c.is_chosen.ensures.0 h)) },
+      λ l. c.is_chosen.ensures.1 (subst Chosen (sym c.entries-2.ensures.size) (agree.1 l.chosen)),
+    )
