@@ -83,6 +83,19 @@ fn pivots_of_a_worked_problem(rt: HostRuntime) -> Result<(), Fail> {
     Ok(())
 }
 
+// Pivots at (0, 0), (1, 1) and so on.
+fn pivot_along(rt: &impl Abort, tableau: &mut Tableau<'_, '_>, count: u32) -> Result<(), Wide>
+    requires not_spent { tableau.old.spent ≡ false }
+    requires room { length tableau.old.pivots + count ≤ tableau.old.most }
+    requires rows { count ≤ cost_row tableau.old.problem }
+    requires columns { count ≤ columns tableau.old.problem }
+{
+    for i in 0..count {
+        step(rt, tableau, i, i)?;
+    }
+    Ok(())
+}
+
 // Six rows p·X >= 1 with large primes and near primes: the sum of the six reciprocals passes 128 bits.
 fn reciprocals<'a>(
     alloc: Global,
@@ -119,16 +132,12 @@ fn the_sixth_pivot_is_wide(rt: HostRuntime) -> Result<(), Fail> {
     let problem = reciprocals(rt.alloc(), &cost, &lo, &hi, &coefs)?;
     assert!(rt; problem.fits());
     let mut tableau = Tableau::start(rt.alloc(), &problem, 6)?;
-    for i in 0..5 {
-        assert!(rt; tableau.is_legal(i, i));
-        step(&rt, &mut tableau, i, i).map_err(|_| "wide")?;
-    }
     let wide = Wide {
         pivot: 5,
         row: 13,
         column: 7,
     };
-    assert_eq!(rt; step(&rt, &mut tableau, 5, 5), Err(wide));
+    assert_eq!(rt; pivot_along(&rt, &mut tableau, 6), Err(wide));
     assert_eq!(rt; tableau.pivots().len(), 6);
     Ok(())
 }
