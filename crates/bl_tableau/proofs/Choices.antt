@@ -1,8 +1,8 @@
 -- The chosen column, by two dictionaries that agree.
-use Rattle.std.proofs.Common.{◌≡◌, ℕ, ◌+◌, ◌<◌, ◌≤◌, ◌⊎◌, inl, inr, List, length, pos, ◌<ℤ◌, ◌↔◌, sym, ap, ◌∙◌, subst, arith}
-use Rattle.std.specs.Prelude.{Option, Some, None, IsSome, MatchOption}
+use Rattle.std.proofs.Common.{◌≡◌, ℕ, ◌<◌, ◌⊎◌, inl, inr, pos, ◌<ℤ◌, ◌↔◌, sym, ap, ◌∙◌, subst}
+use Rattle.std.specs.Prelude.{Option, Some, None, IsSome}
 use Rattle.bl_frac.specs.Fraction.{Fraction, quotient_of}
-use Rattle.bl_tableau.specs.Pivots.{ratio_of, IsCandidate, GoesFirst, StaysBehind, HasLeastRatio, IsFirstWideRatio, IsChosen}
+use Rattle.bl_tableau.specs.Pivots.{ratio_of, IsCandidate, GoesFirst, StaysBehind, IsChosen}
 
 -- the two agree at the columns below n
 pub record Match (n : ℕ) (costs costs' entries entries' : ℕ → Fraction) (label label' : ℕ → ℕ) : Type 0 where

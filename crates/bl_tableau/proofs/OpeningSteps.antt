@@ -1,6 +1,6 @@
 -- The opening dictionary, number by number.
-use Rattle.std.proofs.Common.{◌≡◌, ◌≢◌, ℕ, zero, suc, ◌+◌, ◌*◌, ◌-◌, ◌^◌, ◌<◌, ◌≤◌, ◌⊎◌, inl, inr, true, false, Bool, cond, List, [], ◌∷◌, ◌++◌, length, ℤ, pos, negsuc, neg_ℤ, ◌+ℤ◌, ◌-ℤ◌, ◌*ℤ◌, unsigned_abs, FitsSigned, to_z, of_z, lit<, lit≤, refl, sym, ap, ◌∙◌, subst, arith, length-append}
-use Rattle.std.specs.Prelude.{Option, Some, None, IsSome, ◌==◌, slice_index_or, slice_index, nat_lt, int_lt}
+use Rattle.std.proofs.Common.{◌≡◌, ℕ, ◌+◌, ◌*◌, ◌-◌, ◌^◌, ◌<◌, ◌≤◌, inl, inr, true, false, Bool, cond, List, [], ◌∷◌, ◌++◌, length, ℤ, pos, negsuc, neg_ℤ, ◌-ℤ◌, ◌*ℤ◌, unsigned_abs, FitsSigned, to_z, of_z, lit<, lit≤, refl, sym, ap, ◌∙◌, subst, arith, length-append}
+use Rattle.std.specs.Prelude.{Option, Some, None, IsSome, ◌==◌, slice_index_or, nat_lt, int_lt}
 use Rattle.std.specs.Option.{SomeIff}
 use Rattle.std.specs.Int.{w64, w128, from_bool}
 use Rattle.std.proofs.lemmas.Int.{to_z-of_z, fits_signed_from_abs}
@@ -8,7 +8,7 @@ use Rattle.std.proofs.lemmas.List.{get_or_read}
 use Rattle.std.proofs.lemmas.Bool.Decides.{nat_tests}
 use Rattle.std.proofs.lemmas.Grind.{common_steps}
 use Rattle.std.proofs.lemmas.Bool.{cases_eq}
-use Rattle.bl_whole.specs.Sums.{entry, sum_below, dot}
+use Rattle.bl_whole.specs.Sums.{entry, dot}
 use Rattle.bl_whole.specs.Within.{IsWithin, AreWithin, PartialDotsFit}
 use Rattle.bl_whole.proofs.SumLemmas.{sum_below-agree}
 use Rattle.bl_whole.proofs.WithinLemmas.{within_more, within_dot, within_entry, within_product, within_negation, dots_fit, fits_from_within, within_difference}
@@ -19,7 +19,7 @@ use Rattle.bl_frac.proofs.Signed.{signed_back}
 use Rattle.bl_frac.proofs.LowestTerms.{minus_natural}
 use Rattle.bl_tableau.specs.Dictionaries.{whole_fraction, columns, cost_row, start_at, at_start, descends, sign_at, opening_number, opening_entry, opening_right}
 use Rattle.bl_tableau.specs.Cells.{cell, placed, AreReduced}
-use Rattle.bl_tableau.specs.Runs.{height_of, width_of}
+use Rattle.bl_tableau.specs.Runs.{width_of}
 use Rattle.bl_tableau.proofs.RowSteps.{row_within, test_other}
 use Rattle.bl_tableau.specs.Opening.{Appends, AreStarts}
 

@@ -1,21 +1,13 @@
 -- A pivot keeps the solutions.
-use Rattle.std.proofs.Common.{◌≡◌, ◌≢◌, ℕ, zero, suc, ◌+◌, ◌*◌, ◌<◌, ◌≤◌, ◌↔◌, ◌⊎◌, inl, inr, true, false, Bool, cond, List, [], ◌∷◌, length, ℤ, pos, negsuc, neg_ℤ, ◌+ℤ◌, ◌-ℤ◌, ◌*ℤ◌, refl, sym, ap, ◌∙◌, subst, arith}
+use Rattle.std.proofs.Common.{◌≡◌, ◌≢◌, ℕ, ◌<◌, ◌≤◌, inl, inr, pos, refl, sym, ap, ◌∙◌, subst, arith}
 use Rattle.std.specs.Prelude.{Option, Some, None, IsSome, unwrap_or, option_map, option_and_then, ◌==◌}
-use Rattle.std.specs.Int.{◌∣◌}
 use Rattle.std.proofs.lemmas.Bool.{cases_eq}
-use Rattle.std.proofs.lemmas.Int.{ints}
-use Rattle.bl_whole.specs.Sums.{sum_below}
-use Rattle.bl_whole.specs.Identities.{Polynomial, variable, constant, plus, minus, times, value}
-use Rattle.bl_whole.proofs.IdentityLemmas.{identity}
-use Rattle.bl_whole.proofs.SumLemmas.{sum_below-agree, sum_below-add, sum_below-scale, sum_below_isolate, without, without-same, without-other}
 use Rattle.bl_terms.specs.Bounds.{Problem}
 use Rattle.bl_frac.specs.Fraction.{Fraction, negated, product_of, quotient_of, difference_of}
-use Rattle.bl_frac.proofs.Rationals.{product_of-is, quotient_of-is, difference_of-is, product_of-positive, quotient_of-positive, difference_of-positive}
-use Rattle.bl_tableau.specs.Dictionaries.{Dictionary, whole_fraction, columns, cost_row, opening}
-use Rattle.bl_tableau.specs.Pivots.{share_of, remainder_of, shares_of, pivot_place, pivoted, IsPivot, IsNarrowPivot, replay, AllNarrow}
-use Rattle.bl_tableau.specs.Solutions.{rational_sum, rational_difference, rational_product, rational_total, SameRational, SolvesRow, Solves, AreRational}
+use Rattle.bl_frac.proofs.Rationals.{product_of-positive, quotient_of-positive, difference_of-positive}
+use Rattle.bl_tableau.specs.Dictionaries.{Dictionary, whole_fraction, columns, cost_row}
+use Rattle.bl_tableau.specs.Pivots.{share_of, remainder_of, shares_of, pivot_place, pivoted, IsNarrowPivot}
 use Rattle.bl_tableau.proofs.RowSteps.{test_same, test_other, pivot_place-own, pivot_place-other}
-use Rattle.bl_tableau.proofs.Scaling.{IsOver, over, over_is, over_sum, over_difference, over_product, over_more, over_total, over_unique, over_same, over_negated, cancel, same_from_over, over_from_same, multiple, multiple_positive, dvd_multiple}
 
 -- ---- what stands at the places after a narrow pivot
 

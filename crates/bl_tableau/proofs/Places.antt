@@ -1,6 +1,6 @@
 -- The numbers of a pivot that need no arithmetic.
-use Rattle.std.proofs.Common.{◌≡◌, ℕ, Bool, true, false, ℤ, pos, refl, sym, ap, ◌∙◌, subst}
-use Rattle.std.specs.Prelude.{Option, Some, None, option_map, option_and_then}
+use Rattle.std.proofs.Common.{◌≡◌, Bool, true, false, pos, refl, sym, ap, ◌∙◌}
+use Rattle.std.specs.Prelude.{Option, Some, option_map, option_and_then}
 use Rattle.bl_frac.specs.Fraction.{Fraction, IsReduced, negated, product_of, difference_of, quotient_of}
 use Rattle.bl_frac.proofs.Zeros.{nought, nought_from_num, product_of-nought_left, product_of-nought_right, quotient_of-nought, difference_of-nought}
 use Rattle.bl_tableau.specs.Pivots.{share_of, remainder_of}

@@ -1,5 +1,5 @@
 -- The law of the replay, by induction on the pivots.
-use Rattle.std.proofs.Common.{◌≡◌, ◌≢◌, ℕ, zero, suc, ◌+◌, ◌*◌, ◌<◌, ◌≤◌, ◌↔◌, ◌⊎◌, inl, inr, List, [], ◌∷◌, length, pos, refl, sym, ap, ◌∙◌, subst, arith}
+use Rattle.std.proofs.Common.{◌≡◌, ℕ, suc, ◌*◌, ◌<◌, ◌≤◌, ◌↔◌, inl, inr, List, [], ◌∷◌, length, pos, sym, subst, arith}
 use Rattle.std.specs.Int.{◌∣◌}
 use Rattle.std.proofs.Math.Nat.{dvd_trans, dvd-mul_right, dvd-mul_left, dvd-mul_left_of_dvd}
 use Rattle.std.proofs.lemmas.Bool.{cases_eq, cases_lt}
@@ -12,7 +12,7 @@ use Rattle.bl_tableau.specs.Pivots.{pivoted, IsNarrowPivot, replay, AllNarrow}
 use Rattle.bl_tableau.specs.Solutions.{SolvesRow, Solves, AreRational, ReplayLaw}
 use Rattle.bl_tableau.proofs.Scaling.{multiple, multiple_positive, dvd_multiple}
 use Rattle.bl_tableau.proofs.PivotLaw.{ArePositive, positive_after}
-use Rattle.bl_tableau.proofs.RowEquations.{ValuesPositive, CommonRow, product_positive}
+use Rattle.bl_tableau.proofs.RowEquations.{ValuesPositive, product_positive}
 use Rattle.bl_tableau.proofs.ReplayProof.{Setting, row_label_own, row_label_other, column_label_own, column_label_other, says_from_old, says_from_new, old_from_says, new_from_says, new_row_solved, old_row_solved}
 
 -- the denominators at column k: of rows i and r before and after the pivot, and of the column's value

@@ -1,23 +1,19 @@
 -- The law of the replay, by induction on the pivots.
-use Rattle.std.proofs.Common.{◌≡◌, ◌≢◌, ℕ, zero, suc, ◌+◌, ◌*◌, ◌<◌, ◌≤◌, ◌↔◌, ◌⊎◌, inl, inr, List, [], ◌∷◌, length, ℤ, pos, negsuc, neg_ℤ, ◌+ℤ◌, ◌-ℤ◌, ◌*ℤ◌, cond, refl, sym, ap, ◌∙◌, subst, arith}
-use Rattle.std.specs.Prelude.{◌==◌}
+use Rattle.std.proofs.Common.{◌≡◌, ◌≢◌, ℕ, ◌<◌, ◌≤◌, pos, neg_ℤ, ◌+ℤ◌, ◌-ℤ◌, ◌*ℤ◌, cond, sym, ap, ◌∙◌, arith}
 use Rattle.std.specs.Int.{◌∣◌}
-use Rattle.std.proofs.Math.Nat.{dvd_trans, dvd-mul_right, dvd-mul_left, dvd-mul_left_of_dvd, mul-lt-mul_of_pos_right}
-use Rattle.std.proofs.lemmas.Bool.{cases_eq}
 use Rattle.std.proofs.lemmas.Int.{ints}
 use Rattle.bl_whole.specs.Sums.{sum_below}
 use Rattle.bl_whole.proofs.SumLemmas.{without, sum_below_isolate}
 use Rattle.bl_terms.specs.Bounds.{Problem}
 use Rattle.bl_frac.specs.Fraction.{Fraction}
-use Rattle.bl_tableau.specs.Dictionaries.{Dictionary, whole_fraction, columns, cost_row, opening}
-use Rattle.bl_tableau.specs.Cells.{cell}
-use Rattle.bl_tableau.specs.Pivots.{pivoted, IsPivot, IsNarrowPivot, replay, AllNarrow}
-use Rattle.bl_tableau.specs.Solutions.{SolvesRow, Solves, AreRational, ReplayLaw}
+use Rattle.bl_tableau.specs.Dictionaries.{Dictionary, columns, cost_row}
+use Rattle.bl_tableau.specs.Pivots.{pivoted, IsNarrowPivot}
+use Rattle.bl_tableau.specs.Solutions.{SolvesRow}
 use Rattle.bl_tableau.proofs.RowSteps.{test_same, test_other}
-use Rattle.bl_tableau.proofs.Scaling.{IsOver, over, over_is, cancel, multiple, multiple_positive, dvd_multiple}
+use Rattle.bl_tableau.proofs.Scaling.{over, over_is, cancel}
 use Rattle.bl_tableau.proofs.PivotLaw.{own_share, other_share, own_remainder, other_remainder, ArePositive, positive_after}
 use Rattle.bl_tableau.proofs.RowAlgebra.{PivotEquation, pivot_from_row, row_from_pivot, new_from_pivot, pivot_from_new, other_row}
-use Rattle.bl_tableau.proofs.RowEquations.{ValuesPositive, CommonRow, RowEquation, row_total, equation_from_row, row_from_equation, quotient_over, one_quotient_over, negated_over, difference_over, product_positive}
+use Rattle.bl_tableau.proofs.RowEquations.{ValuesPositive, CommonRow, row_total, equation_from_row, row_from_equation, quotient_over, one_quotient_over, negated_over, difference_over}
 use Rattle.bl_tableau.proofs.Replays.{sum_share, sum_new, sum_remainder}
 
 -- ---- the labels after a pivot

@@ -1,7 +1,7 @@
 -- The rows of a dictionary over one common denominator: what a pivot does to them, in whole numbers.
-use Rattle.std.proofs.Common.{◌≡◌, ℕ, ◌<◌, List, [], ◌∷◌, ℤ, pos, negsuc, neg_ℤ, ◌+ℤ◌, ◌-ℤ◌, ◌*ℤ◌, refl, sym, ap, ◌∙◌, arith}
+use Rattle.std.proofs.Common.{◌≡◌, ℕ, ◌<◌, [], ◌∷◌, ℤ, pos, neg_ℤ, ◌+ℤ◌, ◌-ℤ◌, ◌*ℤ◌, refl, sym, ap, ◌∙◌, arith}
 use Rattle.std.proofs.lemmas.Int.{ints}
-use Rattle.bl_whole.specs.Identities.{Polynomial, variable, constant, plus, minus, times, value}
+use Rattle.bl_whole.specs.Identities.{variable, constant, plus, minus, times}
 use Rattle.bl_whole.proofs.IdentityLemmas.{identity}
 use Rattle.bl_whole.proofs.Products.{*ℤ_assoc, neg_ℤ-*ℤ}
 use Rattle.bl_tableau.proofs.Scaling.{cancel, cancel_nonzero}

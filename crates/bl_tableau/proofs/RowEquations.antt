@@ -1,23 +1,17 @@
 -- A row of a dictionary as an equation of whole numbers over one common denominator.
-use Rattle.std.proofs.Common.{◌≡◌, ◌≢◌, ℕ, zero, suc, ◌+◌, ◌*◌, ◌<◌, ◌≤◌, ◌↔◌, ◌⊎◌, inl, inr, List, [], ◌∷◌, ℤ, pos, negsuc, neg_ℤ, ◌+ℤ◌, ◌-ℤ◌, ◌*ℤ◌, refl, sym, ap, ◌∙◌, subst, arith}
+use Rattle.std.proofs.Common.{◌≡◌, ℕ, zero, suc, ◌*◌, ◌<◌, ◌≤◌, ℤ, pos, neg_ℤ, ◌-ℤ◌, ◌*ℤ◌, sym, subst, arith}
 use Rattle.std.specs.Prelude.{Some}
 use Rattle.std.specs.Int.{◌∣◌}
-use Rattle.std.proofs.Math.Nat.{mul-lt-mul_of_pos_right, dvd_trans, dvd-mul_right, dvd-mul_left, dvd-mul_left_of_dvd, dvd-mul_right_of_dvd}
-use Rattle.std.proofs.lemmas.Bool.{cases_eq}
+use Rattle.std.proofs.Math.Nat.{mul-lt-mul_of_pos_right}
 use Rattle.std.proofs.lemmas.Int.{ints}
 use Rattle.bl_whole.specs.Sums.{sum_below}
-use Rattle.bl_whole.specs.Identities.{Polynomial, variable, constant, plus, minus, times, value}
-use Rattle.bl_whole.proofs.IdentityLemmas.{identity}
-use Rattle.bl_whole.proofs.Products.{neg_ℤ-*ℤ}
-use Rattle.bl_whole.proofs.SumLemmas.{sum_below-agree, sum_below_isolate, without, without-same, without-other}
 use Rattle.bl_terms.specs.Bounds.{Problem}
 use Rattle.bl_frac.specs.Fraction.{Fraction, negated, product_of, quotient_of, difference_of}
 use Rattle.bl_frac.proofs.Rationals.{product_of-is, quotient_of-is, difference_of-is, product_of-positive}
 use Rattle.bl_tableau.specs.Dictionaries.{Dictionary, whole_fraction, columns, cost_row}
-use Rattle.bl_tableau.specs.Pivots.{pivoted, IsPivot, IsNarrowPivot}
-use Rattle.bl_tableau.specs.Solutions.{rational_sum, rational_difference, rational_product, rational_total, SameRational, SolvesRow}
-use Rattle.bl_tableau.proofs.Scaling.{IsOver, over, over_is, over_difference, over_product, over_more, over_total, over_unique, over_same, over_negated, same_from_over, over_from_same, sum_linear}
-use Rattle.bl_tableau.proofs.PivotLaw.{own_share, other_share, own_remainder, other_remainder, ArePositive, positive_after}
+use Rattle.bl_tableau.specs.Solutions.{rational_difference, rational_product, rational_total, SameRational, SolvesRow}
+use Rattle.bl_tableau.proofs.Scaling.{IsOver, over, over_is, over_difference, over_product, over_more, over_total, over_unique, over_same, over_negated, same_from_over, over_from_same}
+use Rattle.bl_tableau.proofs.PivotLaw.{ArePositive}
 
 pub product_positive : (m n : ℕ) → 0 < m → 0 < n → 0 < m * n
 product_positive m n hm hn = omega (arith, mul-lt-mul_of_pos_right hm hn)

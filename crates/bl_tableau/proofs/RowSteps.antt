@@ -1,5 +1,5 @@
 -- A pivot row by row: what is done after some rows, and what the next row adds.
-use Rattle.std.proofs.Common.{◌≡◌, ◌≢◌, ℕ, zero, suc, ◌+◌, ◌*◌, ◌<◌, ◌≤◌, ◌⊎◌, inl, inr, true, false, Bool, List, length, refl, sym, ap, ◌∙◌, subst, arith}
+use Rattle.std.proofs.Common.{◌≡◌, ◌≢◌, ℕ, suc, ◌+◌, ◌*◌, ◌<◌, ◌≤◌, ◌⊎◌, inl, inr, true, false, List, length, refl, sym, ap, ◌∙◌, subst, arith}
 use Rattle.std.specs.Prelude.{Option, Some, None, IsSome, unwrap_or, ◌==◌, pos, slice_index_or}
 use Rattle.std.proofs.Math.Nat.{mul-le-mul_right}
 use Rattle.std.proofs.lemmas.Bool.Decides.{nat_tests}
@@ -8,7 +8,7 @@ use Rattle.std.proofs.lemmas.List.{get_or_read}
 use Rattle.bl_frac.specs.Fraction.{Fraction, IsReduced}
 use Rattle.bl_tableau.specs.Dictionaries.{whole_fraction}
 use Rattle.bl_tableau.specs.Cells.{cell, placed, AreReduced}
-use Rattle.bl_tableau.specs.Pivots.{share_of, remainder_of, shares_of, pivot_place, turn_of, ComesBefore, IsFirstWide}
+use Rattle.bl_tableau.specs.Pivots.{share_of, remainder_of, shares_of, pivot_place, turn_of, IsFirstWide}
 
 -- what an element that was read is
 pub read_cell : (xs : List Fraction) (k : ℕ) (x : Fraction) → k < length xs → x ≡ slice_index_or xs k x → x ≡ cell xs k

@@ -1,14 +1,14 @@
 -- What a tableau keeps, over one more pivot.
-use Rattle.std.proofs.Common.{◌≡◌, ◌≢◌, ℕ, zero, suc, ◌+◌, ◌*◌, ◌-◌, ◌<◌, ◌≤◌, ◌⊎◌, inl, inr, true, false, Bool, cond, List, [], ◌∷◌, ◌++◌, length, take, drop, set, refl, sym, ap, ◌∙◌, subst, arith, length-append, length-set, get_or-set_same, get_or-set_other}
-use Rattle.std.specs.Prelude.{Option, Some, None, IsSome, unwrap_or, ◌==◌, pos, slice_index, slice_index_or, slice_set}
+use Rattle.std.proofs.Common.{◌≡◌, ℕ, ◌+◌, ◌*◌, ◌<◌, ◌≤◌, inl, inr, true, false, Bool, cond, List, [], ◌∷◌, ◌++◌, length, take, drop, refl, sym, ap, ◌∙◌, subst, arith, length-append, length-set, get_or-set_same, get_or-set_other}
+use Rattle.std.specs.Prelude.{Option, Some, IsSome, unwrap_or, ◌==◌, pos, slice_index, slice_index_or, slice_set}
 use Rattle.std.proofs.lemmas.Bool.{cases_eq}
 use Rattle.std.proofs.Math.Seq.{take-append_seam}
 use Rattle.bl_terms.specs.Bounds.{Problem, Fits}
 use Rattle.bl_frac.specs.Fraction.{Fraction}
-use Rattle.bl_tableau.specs.Dictionaries.{Dictionary, whole_fraction, columns, cost_row, opening, opening_number}
-use Rattle.bl_tableau.specs.Cells.{cell, placed, AreReduced}
-use Rattle.bl_tableau.specs.Pivots.{share_of, remainder_of, pivot_place, pivoted, IsPivot, IsNarrowPivot, ComesBefore, IsFirstWide, replay, AllNarrow}
-use Rattle.bl_tableau.specs.Runs.{Run, height_of, width_of, FailsFirstAt, EndsWide, Shows, KeepsReplay}
+use Rattle.bl_tableau.specs.Dictionaries.{Dictionary, whole_fraction, columns, opening, opening_number}
+use Rattle.bl_tableau.specs.Cells.{placed, AreReduced}
+use Rattle.bl_tableau.specs.Pivots.{share_of, remainder_of, pivot_place, pivoted, IsPivot, IsNarrowPivot, IsFirstWide, replay, AllNarrow}
+use Rattle.bl_tableau.specs.Runs.{height_of, width_of, FailsFirstAt, Shows, KeepsReplay}
 use Rattle.bl_tableau.proofs.RowSteps.{test_same, test_other, some_is_some, read_cell, row_within}
 
 -- two dictionaries that agree at four places agree after a pivot

@@ -1,5 +1,5 @@
 -- The dictionary as a list of numbers, row by row.
-use Rattle.std.specs.Prelude.{◌≡◌, ℕ, ◌+◌, ◌*◌, ◌<◌, List, length, slice_index_or, pos}
+use Rattle.std.specs.Prelude.{ℕ, ◌+◌, ◌*◌, ◌<◌, List, length, slice_index_or, pos}
 use Rattle.bl_frac.specs.Fraction.{Fraction, IsReduced}
 use Rattle.bl_tableau.specs.Dictionaries.{whole_fraction}
 

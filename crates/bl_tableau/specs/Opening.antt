@@ -1,5 +1,5 @@
 -- How the opening dictionary is built, row by row.
-use Rattle.std.specs.Prelude.{◌≡◌, ℕ, ◌+◌, ◌<◌, List, length, ℤ, pos, negsuc, Bool, if◌then◌else◌}
+use Rattle.std.specs.Prelude.{◌≡◌, ℕ, ◌+◌, ◌<◌, List, length, ℤ}
 use Rattle.bl_whole.specs.Sums.{entry}
 use Rattle.bl_whole.specs.Within.{AreWithin}
 use Rattle.bl_terms.specs.Bounds.{Problem}

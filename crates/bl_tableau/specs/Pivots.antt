@@ -1,9 +1,9 @@
 -- The pivot: what stands at each place after it, where it first passes 128 bits, and which pivots are legal.
-use Rattle.std.specs.Prelude.{◌≡◌, ◌≢◌, ℕ, zero, suc, ◌+◌, ◌<◌, ◌≤◌, ◌⊎◌, ◌==◌, if◌then◌else◌, Bool, true, false, Option, Some, None, IsSome, unwrap_or, option_map, option_and_then, MatchOption, ℤ, pos, ◌<ℤ◌, List, [], ◌∷◌, ◌++◌, length}
+use Rattle.std.specs.Prelude.{◌≡◌, ◌≢◌, ℕ, zero, suc, ◌<◌, ◌≤◌, ◌⊎◌, ◌==◌, if◌then◌else◌, Bool, Option, Some, None, IsSome, unwrap_or, option_map, option_and_then, MatchOption, pos, ◌<ℤ◌, List, [], ◌∷◌}
 use Rattle.std.specs.declared.cmp.Ordering.{Ordering}
 use Rattle.bl_terms.specs.Bounds.{Problem}
 use Rattle.bl_frac.specs.Fraction.{Fraction, negated, product_of, quotient_of, difference_of, order_of}
-use Rattle.bl_tableau.specs.Dictionaries.{Dictionary, whole_fraction, columns, cost_row, opening}
+use Rattle.bl_tableau.specs.Dictionaries.{Dictionary, whole_fraction, columns, cost_row}
 
 -- a number of the pivot row, divided by the pivot; at the pivot's own column one over the pivot
 abbrev pub share_of : Fraction → Fraction → Bool → Option Fraction

@@ -1,5 +1,5 @@
 -- A run of pivots from a problem's opening dictionary, and what a tableau keeps of it.
-use Rattle.std.specs.Prelude.{◌≡◌, ℕ, suc, ◌+◌, ◌*◌, ◌<◌, ◌≤◌, Bool, true, false, List, [], ◌∷◌, ◌++◌, length, slice_index}
+use Rattle.std.specs.Prelude.{◌≡◌, ℕ, ◌+◌, ◌*◌, ◌<◌, ◌≤◌, Bool, true, false, List, [], ◌∷◌, ◌++◌, length, slice_index}
 use Rattle.bl_terms.specs.Bounds.{Problem, Fits}
 use Rattle.bl_frac.specs.Fraction.{Fraction}
 use Rattle.bl_tableau.specs.Dictionaries.{Dictionary, columns, cost_row, opening}

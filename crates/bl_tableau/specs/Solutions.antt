@@ -1,5 +1,5 @@
 -- What it means that rational values solve a dictionary, and the law of the replay.
-use Rattle.std.specs.Prelude.{◌≡◌, ℕ, zero, suc, ◌+◌, ◌*◌, ◌<◌, ◌≤◌, ◌↔◌, ℤ, pos, ◌+ℤ◌, ◌-ℤ◌, ◌*ℤ◌, List, length}
+use Rattle.std.specs.Prelude.{◌≡◌, ℕ, zero, suc, ◌*◌, ◌<◌, ◌≤◌, ◌↔◌, pos, ◌+ℤ◌, ◌-ℤ◌, ◌*ℤ◌, List, length}
 use Rattle.bl_terms.specs.Bounds.{Problem}
 use Rattle.bl_frac.specs.Fraction.{Fraction}
 use Rattle.bl_tableau.specs.Dictionaries.{Dictionary, whole_fraction, columns, cost_row, opening}

@@ -1,5 +1,4 @@
-use Rattle.std.proofs.Common.{◌≡◌, ℕ, ◌^◌, ◌<◌, pos, ◌≤ℤ◌, to_z, of_z, unsigned_abs, sym, subst, lit<, arith}
-use Rattle.std.specs.Int.{w128}
+use Rattle.std.proofs.Common.{◌^◌, ◌<◌, unsigned_abs, sym, subst, arith}
 use Rattle.std.proofs.lemmas.Int.{ints}
 use Rattle.bl_frac.proofs.Signed.{signed_back}
 use Rattle.bl_frac.proofs.LowestTerms.{IsReduced-whole}

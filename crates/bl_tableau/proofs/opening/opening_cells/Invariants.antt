@@ -1,7 +1,4 @@
-use Rattle.std.proofs.Common.{◌≡◌, ℕ, ◌+◌, ◌*◌, ◌<◌, length}
-use Rattle.bl_tableau.specs.Dictionaries.{opening_number, whole_fraction}
-use Rattle.bl_tableau.specs.Cells.{placed}
-use Rattle.bl_tableau.specs.Runs.{width_of}
+use Rattle.std.proofs.Common.{◌+◌, length}
 use Rattle.bl_tableau.proofs.OpeningSteps.{RowsOpened}
 use Rattle.bl_tableau.proofs.opening.opening_cells.Given as goal
 

@@ -1,12 +1,6 @@
-use Rattle.std.proofs.Common.{rules, ◌≡◌, ℕ, ◌+◌, ◌*◌, ◌<◌, ◌≤◌, ◌^◌, List, length, ℤ, pos, ◌*ℤ◌, ◌-ℤ◌, to_z, of_z, unsigned_abs, sym, ap, ◌∙◌, subst, arith}
-use Rattle.std.specs.Int.{w64, w128}
-use Rattle.bl_whole.specs.Sums.{entry, dot}
-use Rattle.bl_whole.specs.Within.{PartialDotsFit}
-use Rattle.bl_terms.specs.Bounds.{linear_at}
-use Rattle.bl_frac.specs.Fraction.{Fraction}
-use Rattle.bl_tableau.specs.Dictionaries.{columns, cost_row, whole_fraction, opening_number, at_start}
+use Rattle.std.proofs.Common.{rules, ◌≡◌, ◌+◌, ◌<◌, length, ap, ◌∙◌, subst, arith}
+use Rattle.bl_tableau.specs.Dictionaries.{columns, opening_number}
 use Rattle.bl_tableau.specs.Opening.{Appends}
-use Rattle.bl_tableau.specs.Runs.{width_of}
 use Rattle.bl_tableau.proofs.OpeningSteps.{appends_one, range_number, range_right, flag_number}
 use Rattle.bl_tableau.proofs.opening.push_range.Goals as goal
 

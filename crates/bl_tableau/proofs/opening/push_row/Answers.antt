@@ -1,12 +1,9 @@
-use Rattle.std.proofs.Common.{rules, ◌≡◌, ℕ, ◌+◌, ◌*◌, ◌<◌, ◌≤◌, ◌^◌, List, length, ℤ, pos, ◌*ℤ◌, ◌-ℤ◌, to_z, of_z, unsigned_abs, sym, ap, ◌∙◌, subst, arith}
-use Rattle.std.specs.Int.{w64, w128}
-use Rattle.bl_whole.specs.Sums.{entry, dot}
+use Rattle.std.proofs.Common.{rules, ◌≡◌, ◌<◌, ◌^◌, List, length, ℤ, pos, ◌-ℤ◌, to_z, of_z, unsigned_abs, sym, ap, ◌∙◌, subst, arith}
+use Rattle.std.specs.Int.{w128}
 use Rattle.bl_whole.specs.Within.{PartialDotsFit}
 use Rattle.bl_terms.specs.Bounds.{linear_at}
-use Rattle.bl_frac.specs.Fraction.{Fraction}
-use Rattle.bl_tableau.specs.Dictionaries.{columns, cost_row, whole_fraction, opening_number, at_start}
+use Rattle.bl_tableau.specs.Dictionaries.{columns, whole_fraction, opening_number}
 use Rattle.bl_tableau.specs.Opening.{Appends}
-use Rattle.bl_tableau.specs.Runs.{width_of}
 use Rattle.bl_tableau.proofs.OpeningSteps.{appends_one, row_number, slack_value, difference_narrow, read128, starts_fit, right_of_row, read_row, narrow_fits}
 use Rattle.bl_tableau.proofs.opening.push_row.Goals as goal
 use Rattle.std.specs.Prelude.{slice_index_or}

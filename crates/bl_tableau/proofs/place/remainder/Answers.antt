@@ -1,4 +1,4 @@
-use Rattle.std.proofs.Common.{sym, ap, pos}
+use Rattle.std.proofs.Common.{sym, ap}
 use Rattle.std.specs.Option.{ok_or}
 use Rattle.bl_tableau.proofs.Places.{remainder_at_zero}
 use Rattle.bl_tableau.proofs.place.remainder.Goals as goal

@@ -1,7 +1,7 @@
-use Rattle.std.proofs.Common.{◌≡◌, ℕ, ◌+◌, ◌<◌, ◌≤◌, true, pos, sym, ap, subst, arith}
+use Rattle.std.proofs.Common.{◌≡◌, ◌+◌, pos, ap, subst, arith}
 use Rattle.std.specs.Prelude.{◌==◌}
 use Rattle.bl_frac.specs.Fraction.{Fraction}
-use Rattle.bl_tableau.specs.Cells.{cell, AreReduced}
+use Rattle.bl_tableau.specs.Cells.{cell}
 use Rattle.bl_tableau.proofs.Places.{remainder_without_factor}
 use Rattle.bl_tableau.proofs.RowSteps.{read_cell, read_reduced, same_number}
 use Rattle.bl_tableau.proofs.rows.reduce_row.Goals as goal

@@ -1,10 +1,6 @@
-use Rattle.std.proofs.Common.{◌≡◌, ◌≢◌, ℕ, ◌+◌, ◌*◌, ◌<◌, ◌≤◌, List, ◌++◌, ◌∷◌, [], length, drop, ◌∙◌, false, true, Bool, pos, sym, ap, subst, arith}
-use Rattle.std.specs.Vec.{vec_capacity}
-use Rattle.bl_frac.specs.Fraction.{Fraction}
-use Rattle.bl_tableau.specs.Cells.{cell, placed, AreReduced}
-use Rattle.bl_tableau.specs.Dictionaries.{columns, cost_row, opening}
-use Rattle.bl_tableau.specs.Pivots.{replay, IsPivot, IsFirstWide, pivot_place}
-use Rattle.bl_tableau.specs.Runs.{Run, current, width_of, height_of, KeepsReplay, FailsFirstAt}
+use Rattle.std.proofs.Common.{◌≡◌, ◌+◌, ◌<◌, ◌≤◌, false, sym, subst, arith}
+use Rattle.bl_tableau.specs.Dictionaries.{columns, cost_row}
+use Rattle.bl_tableau.specs.Runs.{Run, width_of}
 use Rattle.bl_tableau.proofs.RunSteps.{shown}
 use Rattle.bl_tableau.proofs.tableau.Tableau.entry.Goals as goal
 

@@ -1,9 +1,8 @@
-use Rattle.std.proofs.Common.{rules, ◌≡◌, ℕ, ◌+◌, ◌*◌, ◌-◌, ◌<◌, ◌≤◌, length, List, pos, ◌<ℤ◌, true, false, sym, ap, ◌∙◌, subst, arith}
-use Rattle.std.specs.Prelude.{IsTrue, slice_index}
-use Rattle.bl_frac.specs.Fraction.{Fraction}
+use Rattle.std.proofs.Common.{rules, ◌≡◌, ℕ, ◌-◌, ◌<◌, length, pos, ◌<ℤ◌, false, sym, ap, ◌∙◌, subst, arith}
+use Rattle.std.specs.Prelude.{slice_index}
 use Rattle.bl_tableau.specs.Cells.{cell}
 use Rattle.bl_tableau.specs.Dictionaries.{columns, cost_row}
-use Rattle.bl_tableau.specs.Pivots.{IsChosen, IsCandidate, IsLegal}
+use Rattle.bl_tableau.specs.Pivots.{IsChosen, IsCandidate}
 use Rattle.bl_tableau.specs.Runs.{Run, current, height_of}
 use Rattle.bl_tableau.proofs.Choices.{Match, chosen_agrees}
 use Rattle.bl_tableau.proofs.tableau.Tableau.is_legal.Goals as goal

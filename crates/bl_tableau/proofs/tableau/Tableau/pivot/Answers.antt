@@ -1,7 +1,7 @@
-use Rattle.std.proofs.Common.{◌≡◌, ◌≢◌, ℕ, ◌+◌, ◌*◌, ◌<◌, ◌≤◌, List, ◌++◌, ◌∷◌, [], length, drop, ◌∙◌, false, true, Bool, pos, refl, sym, ap, subst, arith}
+use Rattle.std.proofs.Common.{◌≡◌, ◌≢◌, ℕ, ◌+◌, ◌<◌, ◌≤◌, List, length, ◌∙◌, false, true, pos, refl, sym, ap, subst, arith}
 use Rattle.std.specs.Vec.{vec_capacity}
 use Rattle.bl_frac.specs.Fraction.{Fraction}
-use Rattle.bl_tableau.specs.Cells.{cell, placed, AreReduced}
+use Rattle.bl_tableau.specs.Cells.{placed}
 use Rattle.bl_tableau.specs.Dictionaries.{columns, cost_row, opening}
 use Rattle.bl_tableau.specs.Pivots.{replay, IsPivot, IsFirstWide, pivot_place}
 use Rattle.bl_tableau.specs.Runs.{Run, current, width_of, height_of, KeepsReplay, FailsFirstAt}

@@ -1,10 +1,7 @@
-use Rattle.std.proofs.Common.{◌≡◌, ◌≢◌, ℕ, ◌+◌, ◌*◌, ◌<◌, ◌≤◌, List, ◌++◌, ◌∷◌, [], length, drop, ◌∙◌, false, true, Bool, pos, sym, ap, subst, arith}
-use Rattle.std.specs.Vec.{vec_capacity}
-use Rattle.bl_frac.specs.Fraction.{Fraction}
-use Rattle.bl_tableau.specs.Cells.{cell, placed, AreReduced}
+use Rattle.std.proofs.Common.{◌≡◌, ◌+◌, ◌≤◌, ◌∙◌, false, sym, ap, subst, arith}
 use Rattle.bl_tableau.specs.Dictionaries.{columns, cost_row, opening}
-use Rattle.bl_tableau.specs.Pivots.{replay, IsPivot, IsFirstWide, pivot_place}
-use Rattle.bl_tableau.specs.Runs.{Run, current, width_of, height_of, KeepsReplay, FailsFirstAt}
+use Rattle.bl_tableau.specs.Pivots.{replay}
+use Rattle.bl_tableau.specs.Runs.{Run, width_of}
 use Rattle.bl_tableau.proofs.RunSteps.{shown}
 use Rattle.bl_tableau.proofs.tableau.Tableau.right.Goals as goal
 

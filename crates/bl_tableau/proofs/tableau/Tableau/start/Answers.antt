@@ -1,7 +1,6 @@
-use Rattle.std.proofs.Common.{◌≡◌, ℕ, ◌+◌, ◌*◌, ◌<◌, ◌≤◌, List, length, ◌∙◌, false, sym, ap, subst, arith}
+use Rattle.std.proofs.Common.{◌≡◌, ℕ, ◌+◌, List, length, ◌∙◌, false, sym, ap, subst, arith}
 use Rattle.std.specs.Vec.{vec_capacity}
-use Rattle.std.specs.Prelude.{slice_index}
-use Rattle.bl_tableau.specs.Dictionaries.{columns, cost_row}
+use Rattle.bl_tableau.specs.Dictionaries.{columns}
 use Rattle.bl_tableau.specs.Runs.{height_of, KeepsReplay}
 use Rattle.bl_tableau.proofs.RunSteps.{keeps_opening}
 use Rattle.bl_tableau.proofs.tableau.Tableau.start.Goals as goal
