@@ -6,3 +6,4 @@ pub mod Shares
 pub mod Terms
 pub mod WholeLaws
 pub mod Rationals
+pub mod Zeros

@@ -11,7 +11,7 @@ use Rattle.bl_frac.proofs.Signed.{signed_back, signed_of}
 use Rattle.bl_frac.proofs.Ratios.{not_below_zero, product_positive}
 use Rattle.bl_frac.proofs.Shares.{magnitude-neg, magnitude-share, gcd_of_sum, coprime_products}
 
-minus_natural : (n : ℕ) → pos 0 -ℤ pos n ≡ neg_ℤ (pos n)
+pub minus_natural : (n : ℕ) → pos 0 -ℤ pos n ≡ neg_ℤ (pos n)
 minus_natural n = omega (arith, ints)
 
 -- the parts of a fraction change places
@@ -27,7 +27,7 @@ negative_size : (m : ℤ) → lt_z m (pos 0) ≡ true → 0 < unsigned_abs m
 negative_size (pos n) h = absurd (not_below_zero n h)
 negative_size (negsuc n) h = omega arith
 
-nonzero_size : (m : ℤ) → (m ≡ pos 0 → ⊥) → 0 < unsigned_abs m
+pub nonzero_size : (m : ℤ) → (m ≡ pos 0 → ⊥) → 0 < unsigned_abs m
 nonzero_size (pos zero) h = absurd (h refl)
 nonzero_size (pos (suc n)) h = omega arith
 nonzero_size (negsuc n) h = omega arith

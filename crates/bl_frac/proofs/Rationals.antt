@@ -1,15 +1,17 @@
 -- The results of the operations are the rational ones.
 use Rattle.std.proofs.Common.{◌≡◌, ℕ, zero, suc, ◌*◌, ◌/◌, ◌^◌, ◌<◌, inl, inr, ℤ, pos, negsuc, neg_ℤ, ◌+ℤ◌, ◌*ℤ◌, unsigned_abs, int_div, refl, sym, ap, ◌∙◌, subst, arith}
+use Rattle.std.specs.Prelude.{Some}
 use Rattle.std.proofs.Math.Nat.{mul_comm, div-mul_cancel}
 use Rattle.std.proofs.Math.IntN.{*ℤ_comm}
 use Rattle.bl_frac.specs.Gcd.{gcd}
 use Rattle.bl_frac.specs.Fraction.{Fraction, IsReduced, lowest, negated, reciprocal, with_sign_of, sum_left, sum_right, sum_top, sum_bottom, sum_of, difference_of, product_top, product_bottom, product_of, quotient_of}
-use Rattle.bl_frac.specs.Laws.{IsSum, IsDifference, IsProduct, IsWideSum, IsWideProduct, Gives, QuotientGives, FailsWhere}
-use Rattle.bl_frac.proofs.GcdLaws.{gcd_dvd_left, gcd_dvd_right}
+use Rattle.bl_frac.specs.Laws.{IsQuotient, IsSum, IsDifference, IsProduct, IsWideSum, IsWideProduct, Gives, QuotientGives, FailsWhere}
+use Rattle.bl_frac.proofs.GcdLaws.{gcd_dvd_left, gcd_dvd_right, share_positive}
 use Rattle.bl_whole.proofs.Products.{*ℤ_assoc, +ℤ-*ℤ, *ℤ-neg_ℤ, neg_ℤ-*ℤ}
 use Rattle.bl_frac.proofs.WholeLaws.{neg-neg, scaled, share-times}
 use Rattle.bl_frac.proofs.Signed.{narrow_from_test, wide_from_test, wide_test}
-use Rattle.bl_frac.proofs.LowestTerms.{IsReduced-reciprocal, IsReduced-lowest, IsReduced-product, sum_bottom_positive}
+use Rattle.bl_frac.proofs.Ratios.{product_positive}
+use Rattle.bl_frac.proofs.LowestTerms.{nonzero_size, IsReduced-reciprocal, IsReduced-lowest, IsReduced-product, sum_bottom_positive}
 use Rattle.bl_frac.proofs.Terms.{sum_of-some, sum_of-none, sum_of-wide_left, sum_of-wide_right, sum_of-wide_top, sum_of-wide_bottom, product_of-some, product_of-none, product_of-wide_top, product_of-wide_bottom}
 
 lowest_num : (z : ℤ) (n : ℕ) → (lowest z n).num *ℤ pos (gcd (unsigned_abs z) n) ≡ z
@@ -169,3 +171,44 @@ quotient_of-gives a b c ha hb nonzero h =
 pub quotient_of-fails : FailsWhere quotient_of (λ a b. IsWideProduct a (reciprocal b))
 unfolding quotient_of
 quotient_of-fails a b = product_of-fails a (reciprocal b)
+
+-- ---- the same of fractions that may not be in lowest terms
+
+pub sum_of-is : (a b c : Fraction) → sum_of a b ≡ Some c → IsSum a b c
+sum_of-is a b c h = subst (IsSum a b) (sum_of-some a b c h).0 (lowest_is_sum a b)
+
+pub difference_of-is : (a b c : Fraction) → difference_of a b ≡ Some c → IsDifference a b c
+unfolding difference_of
+difference_of-is a b c h =
+    sum_of-is a (negated b) c h ∙ ap (λ z. (a.num *ℤ pos b.den +ℤ z) *ℤ pos c.den) (neg_ℤ-*ℤ b.num (pos a.den))
+
+pub product_of-is : (a b c : Fraction) → product_of a b ≡ Some c → IsProduct a b c
+product_of-is a b c h = subst (IsProduct a b) (product_of-some a b c h).0 (shares_are_product a b)
+
+pub quotient_of-is : (a b c : Fraction) → quotient_of a b ≡ Some c → IsQuotient a b c
+unfolding quotient_of
+quotient_of-is a b c h = quotient_from_product a b c b.num refl (product_of-is a (reciprocal b) c h)
+
+lowest_positive : (z : ℤ) (n : ℕ) → 0 < n → 0 < (lowest z n).den
+unfolding lowest
+lowest_positive z n h = share_positive n (gcd (unsigned_abs z) n) h (gcd_dvd_right (unsigned_abs z) n)
+
+pub sum_of-positive : (a b c : Fraction) → 0 < a.den → 0 < b.den → sum_of a b ≡ Some c → 0 < c.den
+sum_of-positive a b c ha hb h =
+    let bottom : 0 < sum_bottom a b = product_positive (a.den / gcd a.den b.den) b.den (share_positive a.den (gcd a.den b.den) ha (gcd_dvd_left a.den b.den)) hb in
+    subst (λ f. 0 < f.den) (sum_of-some a b c h).0 (lowest_positive (sum_top a b) (sum_bottom a b) bottom)
+
+pub difference_of-positive : (a b c : Fraction) → 0 < a.den → 0 < b.den → difference_of a b ≡ Some c → 0 < c.den
+unfolding difference_of
+difference_of-positive a b c ha hb h = sum_of-positive a (negated b) c ha hb h
+
+pub product_of-positive : (a b c : Fraction) → 0 < a.den → 0 < b.den → product_of a b ≡ Some c → 0 < c.den
+product_of-positive a b c ha hb h =
+    let left = share_positive a.den (gcd (unsigned_abs b.num) a.den) ha (gcd_dvd_right (unsigned_abs b.num) a.den) in
+    let right = share_positive b.den (gcd (unsigned_abs a.num) b.den) hb (gcd_dvd_right (unsigned_abs a.num) b.den) in
+    let P : Fraction → Type 0 = λ f. 0 < f.den in
+    subst P (product_of-some a b c h).0 (product_positive (a.den / gcd (unsigned_abs b.num) a.den) (b.den / gcd (unsigned_abs a.num) b.den) left right)
+
+pub quotient_of-positive : (a b c : Fraction) → 0 < a.den → (b.num ≡ pos 0 → ⊥) → quotient_of a b ≡ Some c → 0 < c.den
+unfolding quotient_of
+quotient_of-positive a b c ha nonzero h = product_of-positive a (reciprocal b) c ha (nonzero_size b.num nonzero) h

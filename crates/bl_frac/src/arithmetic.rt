@@ -60,7 +60,8 @@ pub fn div(a: Frac, b: Frac) -> Result<Frac, WideFrac>
     mul(a, reciprocal_of(b))
 }
 
-fn negation(a: Frac) -> Frac
+/// `-a`.
+pub fn negation(a: Frac) -> Frac
     ensures { result ≡ negated a }
 {
     Frac {

@@ -51,7 +51,8 @@ pub fn is_whole(a: Frac) -> bool
 
 /// The numerator and the denominator.
 pub fn parts(a: Frac) -> (i128, i128)
-    ensures { result ≡ (a.num, pos a.den) }
+    ensures value { result ≡ (a.num, pos a.den) }
+    ensures lowest_terms { IsReduced a }
 {
     (a.num, a.den as i128)
 }

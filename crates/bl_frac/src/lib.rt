@@ -14,6 +14,6 @@ mod order;
 #[cfg(test)]
 mod tests;
 
-pub use arithmetic::{add, div, mul, sub};
+pub use arithmetic::{add, div, mul, negation, sub};
 pub use fraction::{Frac, WideFrac, is_whole, parts, reduced, whole};
 pub use order::{compare, floor};

@@ -1,0 +1,133 @@
+//! A problem, how it is built and how it is read.
+ghost use Rattle.std.specs.Prelude.{◌≡◌, ◌↔◌, IsTrue, [], ◌∷◌, ◌++◌, length, OnOk, OnErr};
+ghost use Rattle.bl_terms.specs.Points.{IsArea};
+ghost use Rattle.bl_terms.specs.Bounds.{IsProblem, Fits};
+
+use crate::sizes::{are_within, rows_fit};
+use std::alloc::{AllocError, Global};
+use std::marker::Model;
+
+/// A row: the inequality `coef · z <= right`.
+#[derive(Debug, Drop)]
+pub struct ProblemRow<'a> {
+    coef: &'a [i64],
+    right: i64,
+}
+
+impl<'a> Model for ProblemRow<'a> {
+    ghost use Rattle.bl_terms.specs.Points.{Linear, linear_code};
+
+    ghost Value = { Linear };
+
+    ghost coded = { linear_code };
+
+    ghost view = { λ r. record { coef = r.coef.now; right = r.right } };
+}
+
+impl<'a> ProblemRow<'a> {
+    /// The coefficients, one for each column.
+    pub fn coef(&self) -> &'a [i64]
+        ensures { result.now ≡ self.now.coef }
+    {
+        self.coef
+    }
+
+    /// The right side.
+    pub fn right(&self) -> i64
+        ensures { result ≡ self.now.right }
+    {
+        self.right
+    }
+}
+
+/// Rows `coef · z <= right`, a cost to be minimised, and a box: the range of each column. All numbers are lent.
+/// Contracts see it as the problem over whole numbers.
+#[derive(Debug, Drop)]
+pub struct Problem<'a> {
+    rows: Vec<ProblemRow<'a>>,
+    cost: &'a [i64],
+    lo: &'a [i64],
+    hi: &'a [i64],
+}
+
+impl<'a> Model for Problem<'a> {
+    ghost use Rattle.bl_terms.specs.Bounds.{Problem as BoundedProblem, IsProblem};
+
+    ghost Value = { BoundedProblem };
+
+    ghost view = { λ p. record { rows = p.rows.items; cost = p.cost.now; area = record { lo = p.lo.now; hi = p.hi.now } } };
+
+    ghost invariant = { λ p. IsProblem (record { rows = p.rows.items; cost = p.cost.now; area = record { lo = p.lo.now; hi = p.hi.now } }) };
+}
+
+impl<'a> Problem<'a> {
+    /// The problem without rows.
+    pub fn start(alloc: Global, cost: &'a [i64], lo: &'a [i64], hi: &'a [i64]) -> Problem<'a>
+        requires box_in_order { IsArea (record { lo = lo.now; hi = hi.now }) }
+        requires columns { length cost.now ≡ length lo.now }
+        ensures { result ≡ record { rows = []; cost = cost.now; area = record { lo = lo.now; hi = hi.now } } }
+    {
+        Problem {
+            rows: Vec::new(alloc),
+            cost,
+            lo,
+            hi,
+        }
+    }
+
+    /// Adds the row `coef · z <= right` at the end. After an error the problem is as before.
+    pub fn row(&mut self, coef: &'a [i64], right: i64) -> Result<(), AllocError>
+        requires { length coef.now ≡ length self.old.area.lo }
+        ensures ok { OnOk result (self.new ≡ record self.old { rows = self.old.rows ++ record { coef = coef.now; right = right } ∷ [] }) }
+        ensures err { OnErr result (self.new ≡ self.old) }
+    {
+        self.rows.push(ProblemRow { coef, right })?;
+        Ok(())
+    }
+
+    /// Whether the problem is small enough for exact arithmetic in 128 bits: at most 120 columns and 465 rows,
+    /// coefficients of magnitude at most `2^36`, right sides of at most `2^62`, costs and bounds of at most ten
+    /// millions.
+    pub fn fits(&self) -> bool
+        ensures { IsTrue result ↔ Fits self.now }
+    {
+        self.lo.len() <= 120
+            && self.rows.len() <= 465
+            && rows_fit(&self.rows)
+            && are_within(self.cost, 10_000_000)
+            && are_within(self.lo, 10_000_000)
+            && are_within(self.hi, 10_000_000)
+    }
+
+    /// The rows, in the order in which they were added.
+    pub fn rows(&self) -> &[ProblemRow<'a>]
+        ensures value { result.now ≡ self.now.rows }
+        ensures shape { IsProblem self.now }
+    {
+        self.rows.as_slice()
+    }
+
+    /// The cost of each column.
+    pub fn cost(&self) -> &'a [i64]
+        ensures value { result.now ≡ self.now.cost }
+        ensures shape { IsProblem self.now }
+    {
+        self.cost
+    }
+
+    /// The lower side of each column's range.
+    pub fn lo(&self) -> &'a [i64]
+        ensures value { result.now ≡ self.now.area.lo }
+        ensures shape { IsProblem self.now }
+    {
+        self.lo
+    }
+
+    /// The upper side of each column's range.
+    pub fn hi(&self) -> &'a [i64]
+        ensures value { result.now ≡ self.now.area.hi }
+        ensures shape { IsProblem self.now }
+    {
+        self.hi
+    }
+}

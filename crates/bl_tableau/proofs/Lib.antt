@@ -1,0 +1,12 @@
+pub mod Places
+pub mod RowSteps
+pub mod RunSteps
+pub mod OpeningSteps
+pub mod Scaling
+pub mod PivotLaw
+pub mod RowAlgebra
+pub mod RowEquations
+pub mod Replays
+pub mod ReplayProof
+pub mod ReplayInduction
+pub mod Choices

@@ -1,0 +1,6 @@
+use Rattle.bl_tableau.specs.Dictionaries.{opening_number}
+use Rattle.bl_tableau.specs.Opening.{Appends}
+use Rattle.bl_tableau.proofs.opening.push_row.Given as goal
+
+abbrev pub invariant-loop-j : goal.invariant-loop-j
+invariant-loop-j l = Appends l.fn.cells.items l.cells.items l.j (opening_number l.problem l.i)

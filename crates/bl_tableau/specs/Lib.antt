@@ -1,0 +1,7 @@
+-- What the contracts of the tableau cite.
+pub mod Dictionaries
+pub mod Pivots
+pub mod Cells
+pub mod Runs
+pub mod Opening
+pub mod Solutions

@@ -1,0 +1,21 @@
+-- How the opening dictionary is built, row by row.
+use Rattle.std.specs.Prelude.{◌≡◌, ℕ, ◌+◌, ◌<◌, List, length, ℤ}
+use Rattle.bl_whole.specs.Sums.{entry}
+use Rattle.bl_whole.specs.Within.{AreWithin}
+use Rattle.bl_terms.specs.Bounds.{Problem}
+use Rattle.bl_frac.specs.Fraction.{Fraction}
+use Rattle.bl_tableau.specs.Dictionaries.{whole_fraction, columns, start_at}
+use Rattle.bl_tableau.specs.Cells.{cell, AreReduced}
+
+-- n whole numbers f 0, f 1, .. now stand behind the old list, as fractions in lowest terms
+pub record Appends (old new : List Fraction) (n : ℕ) (f : ℕ → ℤ) : Type 0 where
+  pub size : length new ≡ length old + n
+  pub before : (k : ℕ) → k < length old → cell new k ≡ cell old k
+  pub after : (j : ℕ) → j < n → cell new (length old + j) ≡ whole_fraction (f j)
+  pub numbers : AreReduced old → AreReduced new
+
+-- the list has the start of each column, of magnitude at most ten millions
+pub record AreStarts (q : Problem) (starts : List ℤ) : Type 0 where
+  pub size : length starts ≡ columns q
+  pub each : (j : ℕ) → j < columns q → entry starts j ≡ start_at q j
+  pub within : AreWithin 10000000 starts
