@@ -162,3 +162,7 @@ pub record Reads (text : List ℕ) (default : ℤ) (mps : RawMps) : Type 0 where
   pub objective : mps.objective ≡ objective_name (under (codes "ROWS") text)
   pub rows : mps.rows ≡ map (row_meant (flat_map pairs_of_set (under (codes "RHS") text)) (flat_map pairs_of_set (under (codes "RANGES") text))) (row_lines (under (codes "ROWS") text))
   pub columns : AllZip (IsColumnMeant default text) (appeared (map (field 0) (column_lines (under (codes "COLUMNS") text)))) mps.columns
+
+-- A text says one model at most.
+abbrev pub SaysOneModel : Type 0
+SaysOneModel = (text : List ℕ) (default : ℤ) (a b : RawMps) → Reads text default a → Reads text default b → a ≡ b
