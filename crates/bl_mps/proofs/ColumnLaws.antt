@@ -1,23 +1,23 @@
 -- The columns that are read are those of the first form, and no others.
-use Rattle.std.proofs.Common.{◌≡◌, ◌≢◌, ℕ, zero, suc, ◌+◌, ◌-◌, ◌<◌, ◌≤◌, Bool, true, false, cond, ◌||◌, ◌&&◌, eqb, ltb, List, [], ◌∷◌, ◌++◌, length, get_or, set, take, map, filter, fold, position, replicate, Option, Some, None, is_some, is_none, ℤ, refl, sym, ap, subst, ◌∙◌, append_assoc, arith, inl, inr, ◌⊎◌, codes}
+use Rattle.std.proofs.Common.{◌≡◌, ℕ, ◌+◌, ◌-◌, ◌<◌, ◌≤◌, Bool, true, false, cond, ◌||◌, ◌&&◌, eqb, List, [], ◌∷◌, ◌++◌, length, get_or, set, take, map, filter, fold, position, replicate, Option, Some, None, is_some, ℤ, refl, sym, ap, subst, ◌∙◌, append_assoc, arith, inl, inr, ◌⊎◌, codes}
 use Rattle.std.specs.List.{AllByRecursion, flat_map}
 use Rattle.std.specs.Str.{bytes_eq}
-use Rattle.std.proofs.lemmas.List.{append-nil, map-append, map_push, length-append, length-map, length-set, length_push, get_or-map, get_or_append_left, get_or_push, get_or-set_same, get_or-set_other, ext_get_or, take-append-le, take_all, take_at, get_or_at}
+use Rattle.std.proofs.lemmas.List.{append-nil, map-append, map_push, length-append, length-map, length-set, length_push, get_or-map, get_or_append_left, get_or_push, get_or-set_same, get_or-set_other, ext_get_or, take-append-le, take_at, get_or_at}
 use Rattle.std.proofs.lemmas.List.Elements.{filter-append}
 use Rattle.std.proofs.lemmas.List.Sums.{fold-append}
 use Rattle.std.proofs.lemmas.Grind.{flat_map-append}
 use Rattle.std.proofs.lemmas.List.Quantifiers.{position-Some}
-use Rattle.std.proofs.lemmas.Bool.{false≢true, eqb-true, eq-eqb, cases_lt, cases_eq, ltb-true, lt-ltb}
-use Rattle.bl_mps.specs.Lines.{Bytes, EntryFields, entry_in, is_marker}
+use Rattle.std.proofs.lemmas.Bool.{false≢true, eqb-true, eq-eqb, cases_lt, cases_eq}
+use Rattle.bl_mps.specs.Lines.{Bytes, entry_in, is_marker}
 use Rattle.bl_mps.specs.Numbers.{◌>>=◌, taken_up, number_within, entered}
 use Rattle.bl_mps.specs.Rows.{added}
 use Rattle.bl_mps.specs.Columns.{ColumnList, begun_at, begun, last_entered, column_taken_up, columns_from, columns_in}
 use Rattle.bl_mps.specs.Parts.{field}
-use Rattle.bl_mps.specs.Meaning.{is_named, appended, appeared, number_after, pairs_of_column, pairs_on}
+use Rattle.bl_mps.specs.Meaning.{is_named, appended, appeared, pairs_of_column, pairs_on}
 use Rattle.bl_mps.specs.FirstForm.{AreDistinct, HasPairs, IsEntry, AreTogether, AreColumnLines, AreFirstColumns}
-use Rattle.bl_mps.proofs.Takes.{bind_some, taken-sound, taken-complete}
-use Rattle.bl_mps.proofs.Distinct.{or-false, same-from, same-true, differ-false, all-append, all-back, all-front, named-position, named-append, named-true-at, named-false-from, AreDistinct-push, AreDistinct-front, AreDistinct-nil}
-use Rattle.bl_mps.proofs.PairLaws.{IsEntryOf, entry-some, entry-line, names_of, numbers_of, number-named, distinct-places, ArePairs, pairs-sound, pairs-complete}
+use Rattle.bl_mps.proofs.Takes.{bind_some}
+use Rattle.bl_mps.proofs.Distinct.{or-false, same-from, same-true, differ-false, all-append, all-back, all-front, named-position, named-append, AreDistinct-push, AreDistinct-front, AreDistinct-nil}
+use Rattle.bl_mps.proofs.PairLaws.{entry-some, entry-line, names_of, numbers_of, distinct-places, pairs-sound, pairs-complete}
 use Rattle.bl_mps.proofs.RowLaws.{added-some, added-fresh}
 use Rattle.bl_mps.proofs.SideLaws.{all_pairs, all_pairs-push, none-entered}
 

@@ -1,13 +1,10 @@
 -- A text is read exactly where it is in the first form, and then as what it says.
-use Rattle.std.proofs.Common.{◌≡◌, ◌≢◌, ℕ, zero, suc, ◌+◌, ◌-◌, ◌<◌, ◌≤◌, Bool, true, false, cond, not, leb, List, [], ◌∷◌, ◌++◌, length, get_or, map, filter, drop, Option, Some, None, is_some, ℤ, pos, refl, sym, ap, subst, ◌∙◌, arith, codes}
-use Rattle.std.specs.Prelude.{unwrap_or}
-use Rattle.std.specs.List.{AllByRecursion, AllZip, flat_map, range_with_len}
-use Rattle.std.proofs.lemmas.List.{length-map, get_or-map, get_or_default, same_from_push}
+use Rattle.std.proofs.Common.{◌≡◌, ℕ, ◌<◌, ◌≤◌, Bool, true, false, cond, leb, List, [], ◌∷◌, ◌++◌, length, get_or, map, drop, Option, Some, None, ℤ, pos, refl, sym, ap, subst, ◌∙◌, arith, codes}
+use Rattle.std.specs.List.{AllZip, flat_map}
+use Rattle.std.proofs.lemmas.List.{get_or-map, get_or_default, same_from_push}
 use Rattle.std.proofs.lemmas.List.FromFn.{length-map-range_with_len, get_or-map-range_with_len}
 use Rattle.std.proofs.lemmas.Bool.{leb-true, le-leb}
 use Rattle.bl_text.specs.Lines.{lines_of}
-use Rattle.bl_text.specs.Fields.{fields_of}
-use Rattle.bl_model.specs.declared.raw.RawRow.{RawRow}
 use Rattle.bl_model.specs.declared.raw.RawColumn.{RawColumn}
 use Rattle.bl_model.specs.declared.raw.RawMps.{RawMps}
 use Rattle.bl_mps.specs.Lines.{Bytes}
@@ -16,12 +13,12 @@ use Rattle.bl_mps.specs.Rows.{RowList, rows_in}
 use Rattle.bl_mps.specs.Columns.{ColumnList, columns_in, right_sides_in}
 use Rattle.bl_mps.specs.Bounds.{uppers_in}
 use Rattle.bl_mps.specs.Sections.{SectionLines, sections_in}
-use Rattle.bl_mps.specs.First.{number_at, raw_rows, raw_entries, column_of, column_at, raw_columns, most_bytes, model_in, first_in}
-use Rattle.bl_mps.specs.Parts.{field, Section, Parts, parts_of, lines_under, under}
-use Rattle.bl_mps.specs.Meaning.{is_named, appeared, objective_name, row_lines, pairs_of_set, row_meant, column_lines, pairs_of_column, pairs_on, coefficient, entries_meant, bounds_on, lower_meant, upper_meant, IsColumnMeant, Reads}
+use Rattle.bl_mps.specs.First.{number_at, raw_rows, raw_entries, column_at, raw_columns, most_bytes, model_in, first_in}
+use Rattle.bl_mps.specs.Parts.{field, Parts, lines_under, under}
+use Rattle.bl_mps.specs.Meaning.{is_named, appeared, objective_name, row_lines, pairs_of_set, row_meant, column_lines, pairs_on, coefficient, entries_meant, bounds_on, lower_meant, upper_meant, IsColumnMeant, Reads}
 use Rattle.bl_mps.specs.FirstForm.{HasSections, AreDistinct, AreFirstRows, AreColumnLines, AreFirstColumns, AreFirstRightSides, IsFirstBound, names_under_rows, names_under_columns, IsFirstForm}
 use Rattle.bl_mps.proofs.Takes.{bind_some}
-use Rattle.bl_mps.proofs.RowLaws.{sense_of, RowsRead, rows_in-sound, rows_in-complete}
+use Rattle.bl_mps.proofs.RowLaws.{RowsRead, rows_in-sound, rows_in-complete}
 use Rattle.bl_mps.proofs.PairLaws.{numbers_of}
 use Rattle.bl_mps.proofs.SideLaws.{all_pairs, SidesRead, right_sides_in-sound, right_sides_in-complete}
 use Rattle.bl_mps.proofs.ColumnLaws.{keys, column_numbers, ColumnsRead, columns_in-sound, columns_in-complete, appeared-distinct}

@@ -12,3 +12,4 @@ pub mod BoundLaws
 pub mod SectionLaws
 pub mod MeaningLaws
 pub mod FirstLaws
+pub mod OneModel

@@ -1,23 +1,20 @@
 -- What is read of a text in the first form is what the text says.
-use Rattle.std.proofs.Common.{◌≡◌, ◌≢◌, ℕ, zero, suc, ◌+◌, ◌-◌, ◌%◌, ◌<◌, ◌≤◌, Bool, true, false, cond, not, ◌&&◌, ◌||◌, eqb, List, [], ◌∷◌, ◌++◌, length, get_or, map, filter, drop, take, Option, Some, None, is_some, ℤ, pos, refl, sym, ap, subst, ◌∙◌, append_assoc, arith, inl, inr, ◌⊎◌, codes, add-one, zero-add}
+use Rattle.std.proofs.Common.{◌≡◌, ◌≢◌, ℕ, zero, suc, ◌+◌, ◌-◌, ◌%◌, ◌<◌, Bool, true, false, cond, not, ◌&&◌, eqb, List, [], ◌∷◌, ◌++◌, length, get_or, map, filter, drop, Option, None, ℤ, pos, refl, sym, ap, ◌∙◌, arith, inl, inr, codes, add-one, zero-add}
 use Rattle.std.specs.Prelude.{unwrap_or}
 use Rattle.std.specs.List.{AllByRecursion, AllZip, flat_map, enumerate_from, range_with_len}
 use Rattle.std.specs.Str.{bytes_eq}
-use Rattle.std.proofs.lemmas.List.{append-nil, length-map, get_or-map, same_lists, get_or_default}
+use Rattle.std.proofs.lemmas.List.{append-nil, length-map, get_or-map, same_lists}
 use Rattle.std.proofs.lemmas.List.Elements.{filter-append}
 use Rattle.std.proofs.lemmas.List.FromFn.{length-map-range_with_len, get_or-map-range_with_len, length-enumerate_from, get_or-enumerate_from}
 use Rattle.std.proofs.lemmas.Bool.{false≢true}
-use Rattle.bl_model.specs.declared.raw.RawRow.{RawRow}
-use Rattle.bl_model.specs.declared.raw.RawColumn.{RawColumn}
 use Rattle.bl_mps.specs.declared.rows.Sense.{Sense}
-use Rattle.bl_mps.specs.declared.rows.Sense.TheVariants.{AtMost, AtLeast}
+use Rattle.bl_mps.specs.declared.rows.Sense.TheVariants.{AtMost}
 use Rattle.bl_mps.specs.Lines.{Bytes, is_marker}
 use Rattle.bl_mps.specs.Rows.{RowList}
-use Rattle.bl_mps.specs.Columns.{ColumnList}
-use Rattle.bl_mps.specs.First.{number_at, row_of, row_at, raw_rows, is_nonzero, entry_at, raw_entries, column_of, column_at, raw_columns}
+use Rattle.bl_mps.specs.First.{number_at, row_of, row_at, raw_rows, is_nonzero, entry_at, raw_entries}
 use Rattle.bl_mps.specs.Parts.{field}
-use Rattle.bl_mps.specs.Meaning.{is_named, appeared, number_after, pairs_from, is_objective, objective_name, row_lines, pairs_of_set, lower_side, upper_side, row_meant, is_marker_line, column_lines, pairs_of_column, pairs_on, coefficient, entries_meant}
-use Rattle.bl_mps.specs.FirstForm.{AreDistinct, IsKind, AreFirstRows, HasPairs, IsEntry, AreColumnLines, AreFirstColumns}
+use Rattle.bl_mps.specs.Meaning.{is_named, number_after, pairs_from, is_objective, objective_name, row_lines, pairs_of_set, row_meant, is_marker_line, column_lines, pairs_of_column, coefficient, entries_meant}
+use Rattle.bl_mps.specs.FirstForm.{IsKind, AreFirstRows, HasPairs, IsEntry, AreFirstColumns}
 use Rattle.bl_mps.proofs.Distinct.{same-true, differ-false, all-front, all-back}
 use Rattle.bl_mps.proofs.RowLaws.{sense_of}
 use Rattle.bl_mps.proofs.PairLaws.{numbers_of}

@@ -1,22 +1,21 @@
 -- Pairs of a name and a number, entered at the places of the names.
-use Rattle.std.proofs.Common.{◌≡◌, ◌≢◌, ℕ, zero, suc, ◌+◌, ◌-◌, ◌<◌, ◌≤◌, Bool, true, false, cond, not, leb, ◌&&◌, List, [], ◌∷◌, ◌++◌, length, get_or, set, map, position, replicate, Option, Some, None, is_none, is_some, ℤ, refl, sym, ap, subst, ◌∙◌, append_assoc, arith, inl, inr, ◌⊎◌}
+use Rattle.std.proofs.Common.{◌≡◌, ◌≢◌, ℕ, ◌<◌, Bool, true, false, cond, leb, List, [], ◌∷◌, ◌++◌, length, get_or, set, map, position, Option, Some, None, is_some, ℤ, refl, sym, ap, subst, ◌∙◌, append_assoc, arith, inl, inr, ◌⊎◌}
 use Rattle.std.specs.Prelude.{unsigned_abs}
-use Rattle.std.specs.Option.{option_map}
-use Rattle.std.specs.List.{AllByRecursion, find, flat_map}
+use Rattle.std.specs.List.{AllByRecursion}
 use Rattle.std.specs.Str.{bytes_eq}
-use Rattle.std.proofs.lemmas.List.{append-nil, length-append, map_push, length-map, map-append, get_or-map, get_or-set_same, get_or-set_other, length-set, ext_get_or}
+use Rattle.std.proofs.lemmas.List.{append-nil, map_push, length-map, map-append, get_or-map, get_or-set_same, get_or-set_other, length-set, ext_get_or}
 use Rattle.std.proofs.lemmas.List.Quantifiers.{position-Some}
 use Rattle.std.proofs.lemmas.Bool.{false≢true, cases_eq, cases_lt}
 use Rattle.bl_text.specs.Numbers.{short_number}
-use Rattle.bl_mps.specs.Lines.{Bytes, EntryFields, pair_in, pairs_in, entry_in}
+use Rattle.bl_mps.specs.Lines.{Bytes, EntryFields, entry_in}
 use Rattle.bl_mps.specs.Numbers.{◌>>=◌, taken_up, number_within, entered}
 use Rattle.bl_mps.specs.Parts.{field}
 use Rattle.bl_mps.specs.Values.{value_of}
-use Rattle.bl_mps.specs.Meaning.{is_named, number_after, pairs_from, pairs_of_column}
+use Rattle.bl_mps.specs.Meaning.{is_named, number_after, pairs_of_column}
 use Rattle.bl_mps.specs.FirstForm.{AreDistinct, HasPairs, IsEntry}
 use Rattle.bl_mps.proofs.Takes.{bind_some, taken-sound, taken-complete}
 use Rattle.bl_mps.proofs.ShortValues.{value-short}
-use Rattle.bl_mps.proofs.Distinct.{or-false, same-from, same-true, differ-from, differ-false, all-append, all-front, all-back, named-position, named-false-at, AreDistinct-push, AreDistinct-fresh, AreDistinct-front}
+use Rattle.bl_mps.proofs.Distinct.{or-false, same-from, same-true, differ-false, all-append, all-back, named-position, AreDistinct-push, AreDistinct-fresh, AreDistinct-front}
 
 -- ---- the fields of a line
 

@@ -1,8 +1,8 @@
 -- The rows that are read are those of the first form, and no others.
-use Rattle.std.proofs.Common.{◌≡◌, ◌≢◌, ℕ, zero, suc, ◌+◌, ◌-◌, ◌<◌, ◌≤◌, Bool, true, false, cond, not, ltb, ◌&&◌, List, [], ◌∷◌, ◌++◌, length, map, take, drop, position, Option, Some, None, is_none, is_some, refl, sym, ap, subst, ◌∙◌, append_assoc, arith, inl, inr, ◌⊎◌, codes}
+use Rattle.std.proofs.Common.{◌≡◌, ◌≢◌, ℕ, ◌<◌, Bool, true, false, cond, ltb, ◌&&◌, List, [], ◌∷◌, ◌++◌, length, map, drop, position, Option, Some, None, is_none, refl, sym, ap, subst, ◌∙◌, arith, inl, inr, codes}
 use Rattle.std.specs.List.{AllByRecursion}
 use Rattle.std.specs.Str.{bytes_eq}
-use Rattle.std.proofs.lemmas.List.{append-nil, length-append, map_push, length-map, map-append}
+use Rattle.std.proofs.lemmas.List.{length-append, map_push, length-map, map-append}
 use Rattle.std.proofs.lemmas.Bool.{ltb-true, lt-ltb, false≢true}
 use Rattle.bl_mps.specs.declared.rows.Sense.{Sense}
 use Rattle.bl_mps.specs.declared.rows.Sense.TheVariants.{AtMost, AtLeast}
@@ -13,7 +13,7 @@ use Rattle.bl_mps.specs.Parts.{field}
 use Rattle.bl_mps.specs.Meaning.{is_named}
 use Rattle.bl_mps.specs.FirstForm.{IsKind, AreDistinct, AreFirstRows}
 use Rattle.bl_mps.proofs.Takes.{bind_some, taken-sound, taken-complete}
-use Rattle.bl_mps.proofs.Distinct.{same-from, same-true, differ-from, differ-false, all-append, all-front, all-back, named-position, AreDistinct-push, AreDistinct-fresh, AreDistinct-nil}
+use Rattle.bl_mps.proofs.Distinct.{same-from, same-true, differ-from, differ-false, all-append, all-back, named-position, AreDistinct-push, AreDistinct-fresh, AreDistinct-nil}
 
 -- the sense of a line's row
 abbrev pub sense_of : List Bytes → Sense

@@ -1,8 +1,7 @@
 -- The sections that are read are those of the first form, and no others.
-use Rattle.std.proofs.Common.{◌≡◌, ◌≢◌, ℕ, zero, suc, ◌+◌, ◌-◌, ◌<◌, ◌≤◌, Bool, true, false, cond, not, ◌&&◌, ◌||◌, eqb, List, [], ◌∷◌, ◌++◌, length, get_or, map, Option, Some, None, refl, sym, ap, subst, ◌∙◌, append_assoc, arith, codes}
+use Rattle.std.proofs.Common.{◌≡◌, ℕ, Bool, true, false, cond, not, ◌&&◌, eqb, List, [], ◌∷◌, ◌++◌, length, get_or, map, Option, Some, None, refl, sym, ap, subst, ◌∙◌, arith, codes}
 use Rattle.std.specs.List.{AllByRecursion, filter, slice_split}
 use Rattle.std.proofs.Math.Dec.{eqb-suc-zero}
-use Rattle.std.specs.Str.{bytes_eq}
 use Rattle.std.proofs.lemmas.List.{append-nil}
 use Rattle.std.proofs.lemmas.Bool.{false≢true, eqb-true, lt-ltb}
 use Rattle.bl_text.specs.Fields.{fields_of, is_blank, is_nonempty}
@@ -10,10 +9,10 @@ use Rattle.bl_text.specs.Lines.{lines_of}
 use Rattle.bl_mps.specs.Lines.{Bytes}
 use Rattle.bl_mps.specs.Numbers.{◌>>=◌}
 use Rattle.bl_mps.specs.Sections.{begins_section, first_is, is_heading, behind_heading, data_split, SectionLines, sections_in}
-use Rattle.bl_mps.specs.Parts.{field, is_comment, is_skipped, Section, Parts, with_line, parts_of, lines_under, under}
+use Rattle.bl_mps.specs.Parts.{field, is_comment, is_skipped, Section, Parts, parts_of}
 use Rattle.bl_mps.specs.FirstForm.{section, HasSections}
 use Rattle.bl_mps.proofs.Takes.{bind_some}
-use Rattle.bl_mps.proofs.Distinct.{same-from, same-true, or-false, all-append, all-front, all-back}
+use Rattle.bl_mps.proofs.Distinct.{same-from, same-true, or-false}
 
 -- no line says nothing
 abbrev pub AreFull : List Bytes → Type 0

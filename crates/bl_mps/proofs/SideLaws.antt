@@ -1,18 +1,18 @@
 -- The right sides that are read are those of the first form, and no others.
-use Rattle.std.proofs.Common.{◌≡◌, ◌≢◌, ℕ, zero, suc, ◌+◌, ◌-◌, ◌<◌, ◌≤◌, Bool, true, false, cond, ◌||◌, List, [], ◌∷◌, ◌++◌, length, get_or, map, replicate, Option, Some, None, is_some, ℤ, refl, sym, ap, subst, ◌∙◌, append_assoc, arith}
+use Rattle.std.proofs.Common.{◌≡◌, suc, Bool, true, false, cond, ◌||◌, List, [], ◌∷◌, ◌++◌, length, get_or, map, replicate, Option, Some, None, is_some, ℤ, refl, sym, ap, subst, ◌∙◌, append_assoc, arith}
 use Rattle.std.specs.List.{AllByRecursion, flat_map}
 use Rattle.std.specs.Str.{bytes_eq}
 use Rattle.std.proofs.lemmas.List.{append-nil, map-append}
 use Rattle.std.proofs.lemmas.Grind.{flat_map-append}
 use Rattle.std.proofs.lemmas.Bool.{false≢true}
-use Rattle.bl_mps.specs.Lines.{Bytes, EntryFields, entry_in}
-use Rattle.bl_mps.specs.Numbers.{◌>>=◌, taken_up, number_within, entered}
+use Rattle.bl_mps.specs.Lines.{Bytes, entry_in}
+use Rattle.bl_mps.specs.Numbers.{taken_up, entered}
 use Rattle.bl_mps.specs.Columns.{right_side_taken_up, right_sides_in}
 use Rattle.bl_mps.specs.Meaning.{is_named, number_after, pairs_of_column}
 use Rattle.bl_mps.specs.FirstForm.{AreDistinct, HasPairs, IsEntry, AreFirstRightSides}
 use Rattle.bl_mps.proofs.Takes.{bind_some, taken-sound, taken-complete}
-use Rattle.bl_mps.proofs.Distinct.{or-false, same-from, same-true, differ-false, all-append, all-back, all-front, AreDistinct-front, AreDistinct-nil, named-false-from}
-use Rattle.bl_mps.proofs.PairLaws.{IsEntryOf, entry-some, entry-line, names_of, numbers_of, number-named, ArePairs, pairs-sound, pairs-complete}
+use Rattle.bl_mps.proofs.Distinct.{or-false, same-true, differ-false, all-append, all-back, all-front, AreDistinct-front, AreDistinct-nil, named-false-from}
+use Rattle.bl_mps.proofs.PairLaws.{entry-some, entry-line, names_of, numbers_of, number-named, pairs-sound, pairs-complete}
 
 -- the pairs of lines
 abbrev pub all_pairs : List (List Bytes) → List (Bytes × Bytes)

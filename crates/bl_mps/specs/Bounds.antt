@@ -1,5 +1,5 @@
 -- The bounds of a text in the first form.
-use Rattle.std.specs.Prelude.{ℕ, ℤ, Bool, not, ◌&&◌, List, [], ◌∷◌, Option, Some, None, codes, pos, unsigned_abs, ◌≤◌, ◌≤ℤ◌, ◌++◌, ◌==◌, length, slice_get, if◌then◌else◌}
+use Rattle.std.specs.Prelude.{ℤ, not, ◌&&◌, List, [], ◌∷◌, Option, Some, None, codes, pos, unsigned_abs, ◌≤◌, ◌≤ℤ◌, ◌++◌, ◌==◌, length, slice_get, if◌then◌else◌}
 use Rattle.std.specs.Str.{bytes_eq}
 use Rattle.std.specs.Str.Parse.{starts_with_minus}
 use Rattle.bl_mps.specs.Lines.{Bytes, bound_in}

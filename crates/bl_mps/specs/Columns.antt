@@ -1,7 +1,7 @@
 -- The columns and the right sides of a text in the first form.
-use Rattle.std.specs.Prelude.{ℕ, ◌+◌, ◌-◌, Bool, not, ◌&&◌, ◌==◌, ◌++◌, List, [], ◌∷◌, Option, Some, None, nat_lt, length, position, replicate, slice_index_or, slice_set, codes, if◌then◌else◌, ℤ, is_some, All, ◌≡◌, ◌≤◌}
+use Rattle.std.specs.Prelude.{ℕ, ◌+◌, ◌-◌, ◌==◌, ◌++◌, List, [], ◌∷◌, Option, Some, None, length, position, replicate, slice_index_or, slice_set, codes, if◌then◌else◌, ℤ, is_some, All, ◌≡◌, ◌≤◌}
 use Rattle.std.specs.Str.{bytes_eq}
-use Rattle.bl_mps.specs.Lines.{Bytes, EntryFields, entry_in, is_marker}
+use Rattle.bl_mps.specs.Lines.{Bytes, entry_in, is_marker}
 use Rattle.bl_mps.specs.Numbers.{◌>>=◌, taken_up, entered, AreWithin}
 use Rattle.bl_mps.specs.Rows.{added}
 

@@ -1,5 +1,5 @@
 -- What is read of a text in the first form.
-use Rattle.std.specs.Prelude.{ℕ, zero, suc, true, false, negsuc, ◌+◌, ◌-◌, Bool, not, ◌==◌, List, [], ◌∷◌, Option, Some, None, ℤ, pos, unwrap_or, length, map, filter, drop, nat_le, slice_index_or, if◌then◌else◌}
+use Rattle.std.specs.Prelude.{ℕ, zero, suc, true, false, negsuc, ◌+◌, ◌-◌, Bool, List, [], Option, Some, None, ℤ, pos, unwrap_or, length, map, filter, nat_le, slice_index_or, if◌then◌else◌}
 use Rattle.std.specs.List.{range_with_len}
 use Rattle.bl_text.specs.Fields.{fields_of}
 use Rattle.bl_text.specs.Lines.{lines_of}

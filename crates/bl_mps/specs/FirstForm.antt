@@ -1,12 +1,12 @@
 -- The first form of MPS texts, which a reader takes.
-use Rattle.std.specs.Prelude.{◌≡◌, ◌≢◌, ℕ, ◌+◌, ◌<◌, ◌≤◌, ◌⊎◌, Bool, true, false, List, [], ◌∷◌, ◌++◌, length, map, drop, take, AllPairs, is_some, slice_index_or, codes}
+use Rattle.std.specs.Prelude.{◌≡◌, ◌≢◌, ℕ, ◌+◌, ◌<◌, ◌≤◌, ◌⊎◌, true, false, List, [], ◌∷◌, ◌++◌, length, map, drop, take, AllPairs, is_some, slice_index_or, codes}
 use Rattle.std.specs.List.{flat_map, AllByRecursion, AllZip}
 use Rattle.std.specs.Str.Parse.{starts_with_minus}
 use Rattle.bl_text.specs.Lines.{lines_of}
 use Rattle.bl_mps.specs.Lines.{Bytes, is_marker}
 use Rattle.bl_mps.specs.Numbers.{number_within}
 use Rattle.bl_mps.specs.First.{most_bytes}
-use Rattle.bl_mps.specs.Parts.{field, is_skipped, Section, Parts, parts_of, under}
+use Rattle.bl_mps.specs.Parts.{field, is_skipped, Section, parts_of, under}
 use Rattle.bl_mps.specs.Meaning.{is_named, appeared, pairs_of_column, pairs_on}
 
 abbrev pub section : Bytes → List (List Bytes) → Section

@@ -1,5 +1,5 @@
 -- What an MPS text says, for every text of the profile: names are looked up among whole lines.
-use Rattle.std.specs.Prelude.{◌≡◌, ℕ, ◌+◌, ◌-◌, ◌*◌, ◌^◌, ◌%◌, Bool, true, false, not, ◌&&◌, ◌||◌, ◌==◌, nat_le, List, [], ◌∷◌, ◌++◌, Option, Some, None, ℤ, pos, negsuc, neg_ℤ, ◌+ℤ◌, ◌-ℤ◌, unsigned_abs, unwrap_or, length, map, filter, find, fold, drop, is_none, codes, if◌then◌else◌}
+use Rattle.std.specs.Prelude.{◌≡◌, ℕ, ◌-◌, ◌^◌, ◌%◌, Bool, not, ◌||◌, ◌==◌, nat_le, List, [], ◌∷◌, ◌++◌, Option, Some, None, ℤ, pos, negsuc, ◌+ℤ◌, ◌-ℤ◌, unsigned_abs, unwrap_or, length, map, filter, find, fold, drop, codes, if◌then◌else◌}
 use Rattle.std.specs.Option.{option_map}
 use Rattle.std.specs.List.{flat_map, list_any, enumerate_from, AllZip}
 use Rattle.std.specs.Str.{bytes_eq}
@@ -162,3 +162,7 @@ pub record Reads (text : List ℕ) (default : ℤ) (mps : RawMps) : Type 0 where
   pub objective : mps.objective ≡ objective_name (under (codes "ROWS") text)
   pub rows : mps.rows ≡ map (row_meant (flat_map pairs_of_set (under (codes "RHS") text)) (flat_map pairs_of_set (under (codes "RANGES") text))) (row_lines (under (codes "ROWS") text))
   pub columns : AllZip (IsColumnMeant default text) (appeared (map (field 0) (column_lines (under (codes "COLUMNS") text)))) mps.columns
+
+-- A text says one model at most.
+abbrev pub SaysOneModel : Type 0
+SaysOneModel = (text : List ℕ) (default : ℤ) (a b : RawMps) → Reads text default a → Reads text default b → a ≡ b

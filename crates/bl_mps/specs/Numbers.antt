@@ -1,5 +1,5 @@
 -- Numbers beside the names of rows.
-use Rattle.std.specs.Prelude.{ℕ, ℤ, Bool, List, [], ◌∷◌, Option, Some, None, nat_le, unsigned_abs, is_some, slice_index_or, slice_set, position, option_and_then, All, IfSome, ◌≤◌, if◌then◌else◌}
+use Rattle.std.specs.Prelude.{ℕ, ℤ, List, [], ◌∷◌, Option, Some, None, nat_le, unsigned_abs, is_some, slice_index_or, slice_set, position, option_and_then, All, IfSome, ◌≤◌, if◌then◌else◌}
 use Rattle.std.specs.Str.{bytes_eq}
 use Rattle.bl_text.specs.Numbers.{short_number}
 use Rattle.bl_mps.specs.Lines.{Bytes}

@@ -1,5 +1,5 @@
 -- The rows of a text in the first form.
-use Rattle.std.specs.Prelude.{ℕ, Bool, not, ◌&&◌, ◌++◌, List, [], ◌∷◌, Option, Some, None, is_none, nat_lt, length, position, codes, if◌then◌else◌}
+use Rattle.std.specs.Prelude.{ℕ, ◌&&◌, ◌++◌, List, [], ◌∷◌, Option, Some, None, is_none, nat_lt, length, position, codes, if◌then◌else◌}
 use Rattle.std.specs.Str.{bytes_eq}
 use Rattle.bl_mps.specs.declared.rows.Sense.{Sense}
 use Rattle.bl_mps.specs.declared.rows.Sense.TheVariants.{AtMost, AtLeast}

@@ -1,5 +1,5 @@
 -- The sections of a text in the first form, as lists of lines.
-use Rattle.std.specs.Prelude.{ℕ, Bool, false, not, ◌&&◌, ◌==◌, List, [], ◌∷◌, Option, Some, None, length, slice_index_or, codes, if◌then◌else◌}
+use Rattle.std.specs.Prelude.{Bool, false, not, ◌&&◌, ◌==◌, List, [], ◌∷◌, Option, Some, None, length, codes, if◌then◌else◌}
 use Rattle.std.specs.Str.{bytes_eq}
 use Rattle.bl_text.specs.Fields.{fields_of, is_blank}
 use Rattle.bl_mps.specs.Lines.{Bytes}

@@ -1,5 +1,5 @@
 -- The values of numbers in an MPS text: a sign, digits with a point, and an exponent.
-use Rattle.std.specs.Prelude.{ℕ, ◌+◌, ◌*◌, ◌/◌, ◌^◌, suc, ℤ, pos, negsuc, neg_ℤ, ◌-ℤ◌, Bool, ◌||◌, ◌==◌, List, ◌++◌, length, drop, slice_index, if◌then◌else◌}
+use Rattle.std.specs.Prelude.{ℕ, ◌*◌, ◌/◌, ◌^◌, suc, ℤ, pos, negsuc, neg_ℤ, ◌-ℤ◌, Bool, ◌||◌, ◌==◌, ◌++◌, length, if◌then◌else◌}
 use Rattle.std.specs.List.{before_first, after_first}
 use Rattle.std.specs.Str.Parse.{digits_value, starts_with_minus, without_leading_sign}
 use Rattle.bl_mps.specs.Lines.{Bytes}

@@ -1,5 +1,5 @@
 -- The fields that the parts of a line are.
-use Rattle.std.specs.Prelude.{ℕ, List, [], ◌∷◌, ◌++◌, map}
+use Rattle.std.specs.Prelude.{◌∷◌, map}
 use Rattle.std.specs.Option.{option_to_list}
 use Rattle.bl_mps.specs.declared.entries.Pair.{Pair}
 use Rattle.bl_mps.specs.declared.entries.Entry.{Entry}

@@ -5,6 +5,7 @@ mod bounds;
 mod columns;
 mod entries;
 mod first;
+pub mod laws;
 mod names;
 mod numbers;
 mod raw;

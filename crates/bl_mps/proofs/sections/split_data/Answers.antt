@@ -1,5 +1,4 @@
-use Rattle.std.proofs.Common.{sym, ap, List, ℕ, Option, Some, ◌∙◌}
-use Rattle.bl_text.specs.Lines.{lines_of}
+use Rattle.std.proofs.Common.{sym}
 use Rattle.bl_mps.proofs.DataSplits.{scanned-more, scanned-stop, scanned-none, scanned-end}
 use Rattle.bl_mps.proofs.sections.split_data.Goals as goal
 
