@@ -1,7 +1,7 @@
 //! Small programs and their answers, worked out by hand.
 
 ghost use Rattle.std.specs.Prelude.{◌≡◌, ◌≤◌, [], length, vec_len, All, IfOk};
-ghost use Rattle.bl_model.specs.Raw.{FitsModel, IsColumn, IsRow, IsSense, IsSide};
+ghost use Rattle.bl_model.specs.Raw.{FitsModel, IsColumn, IsRow, IsSide};
 
 use super::*;
 use bl_model::{Listed, Name, RawAux, RawColumn, RawMps, RawRow, build};
@@ -104,25 +104,24 @@ fn moore_and_bard(rt: HostRuntime) -> Result<(), Fail> {
     Ok(())
 }
 
-/// X in 0..3 leads and Y in 0..5 follows at most X; the leader's cost is Y - 2 X, the follower's Y.
-fn follower_up_to_leader(alloc: Global, sense: i64) -> Result<Option<(i64, Vec<i64>)>, Fail>
-    requires { IsSense sense }
+/// X in 0..3 leads with the cost Y - 2 X, and Y in 0..5 is at most X.
+fn follower_up_to_leader(alloc: Global, aux: RawAux) -> Result<Option<(i64, Vec<i64>)>, Fail>
+    requires { FitsModel 2 1 aux }
 {
     let rows = vec![in alloc; row(alloc, None, Some(0))?]?;
     let columns = vec![in alloc;
         column(alloc, 1, 0, 3, -2, &[(0, -1)])?,
         column(alloc, 1, 0, 5, 1, &[(0, 1)])?,
     ]?;
-    let aux = follower(alloc, &[1], &[0], &[1], sense)?;
     solved(alloc, rows, columns, aux)
 }
 
 #[test]
 fn follower_of_both_senses(rt: HostRuntime) -> Result<(), Fail> {
     let alloc = rt.alloc();
-    let most = follower_up_to_leader(alloc, -1)?;
+    let most = follower_up_to_leader(alloc, follower(alloc, &[1], &[0], &[1], -1)?)?;
     assert_eq!(rt; most, Some((-3, vec![in alloc; 3, 3]?)));
-    let least = follower_up_to_leader(alloc, 1)?;
+    let least = follower_up_to_leader(alloc, follower(alloc, &[1], &[0], &[1], 1)?)?;
     assert_eq!(rt; least, Some((-6, vec![in alloc; 3, 0]?)));
     Ok(())
 }

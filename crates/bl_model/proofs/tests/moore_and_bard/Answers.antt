@@ -1,4 +1,4 @@
-use Rattle.std.proofs.Common.{rules, arith}
+use Rattle.std.proofs.Common.{rules}
 use Rattle.bl_model.proofs.tests.moore_and_bard.Goals as goal
 
 pub returns-clause-limits : goal.returns-clause-limits
