@@ -15,7 +15,7 @@ use std::alloc::AllocError;
 /// | 0 | an optimal point was found |
 /// | 1 | no point is bilevel feasible |
 /// | 2 | the words aren't understood |
-/// | 3 | a text isn't read |
+/// | 3 | a text isn't in the form that is read, or the box has too many points |
 /// | 6 | a fault in reading a file |
 /// | 7 | a fault in writing |
 /// | 8 | want of memory |

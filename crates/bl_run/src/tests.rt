@@ -3,7 +3,9 @@
 use crate::{Status, run, run_alone};
 use bl_outer::{MemShelf, MemSink, NoGate};
 use std::alloc::{AllocError, Global};
+use std::sync::Wait;
 use std::test::Fail;
+use std::thread::Threads;
 
 const MOORE_BARD: &str = "\
 NAME          MOOREBARD
@@ -224,6 +226,29 @@ fn shelf(alloc: Global, mps: &str, aux: &str, fails: &[u64]) -> Result<MemShelf,
     Ok(shelf)
 }
 
+// A run whose promises the tests don't use: they look at what it gave.
+fn status_alone(
+    alloc: Global,
+    words: &[String],
+    files: &mut MemShelf,
+    out: &mut MemSink,
+    err: &mut MemSink,
+) -> Status {
+    run_alone(alloc, words, files, out, err)
+}
+
+// The same of the call that main makes.
+fn status_of_run<R: Threads + Wait + Sync>(
+    rt: &R,
+    alloc: Global,
+    words: &[String],
+    files: &mut MemShelf,
+    out: &mut MemSink,
+    err: &mut MemSink,
+) -> Status {
+    run(rt, alloc, words, files, out, err, &NoGate)
+}
+
 #[test]
 fn solves_the_worked_examples(rt: HostRuntime) -> Result<(), Fail> {
     let words = words(rt.alloc(), &SOLVE)?;
@@ -231,7 +256,7 @@ fn solves_the_worked_examples(rt: HostRuntime) -> Result<(), Fail> {
         let mut files = shelf(rt.alloc(), case.mps, case.aux, &[])?;
         let mut out = MemSink::new(rt.alloc(), &[])?;
         let mut err = MemSink::new(rt.alloc(), &[])?;
-        let status = run_alone(rt.alloc(), &words, &mut files, &mut out, &mut err);
+        let status = status_alone(rt.alloc(), &words, &mut files, &mut out, &mut err);
         let name = case.name;
         assert_eq!(rt; status, Status(case.status), "{name}");
         assert_eq!(rt; out.bytes(), case.out.as_bytes(), "{name}");
@@ -278,7 +303,7 @@ fn refuses_other_words(rt: HostRuntime) -> Result<(), Fail> {
         let mut files = shelf(rt.alloc(), MOORE_BARD, MOORE_BARD_AUX, &[])?;
         let mut out = MemSink::new(rt.alloc(), &[])?;
         let mut err = MemSink::new(rt.alloc(), &[])?;
-        let status = run_alone(rt.alloc(), &words, &mut files, &mut out, &mut err);
+        let status = status_alone(rt.alloc(), &words, &mut files, &mut out, &mut err);
         assert_eq!(rt; status, Status(2), "{texts:?}");
         assert_eq!(rt; out.bytes(), b"".as_slice());
         assert_eq!(rt; err.bytes(), b"mibs: words not understood\n".as_slice());
@@ -363,7 +388,7 @@ fn names_each_fault(rt: HostRuntime) -> Result<(), Fail> {
         }
         let mut out = MemSink::new(rt.alloc(), fault.out_fails)?;
         let mut err = MemSink::new(rt.alloc(), &[])?;
-        let status = run_alone(rt.alloc(), &words, &mut files, &mut out, &mut err);
+        let status = status_alone(rt.alloc(), &words, &mut files, &mut out, &mut err);
         let line = fault.err;
         assert_eq!(rt; status, Status(fault.status), "{line}");
         assert_eq!(rt; out.bytes(), fault.out.as_bytes(), "{line}");
