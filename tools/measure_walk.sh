@@ -182,7 +182,7 @@ fn solve(model: &Model) -> Best {
     best
 }
 
-/// What a run prints and how long the whole process took, at best.
+/// What the quickest of several runs printed, and how long its whole process took.
 fn best_of(program: &str, words: &[&str]) -> (Output, Duration) {
     let mut runs = (0..RUNS).map(|_| {
         let mut command = Command::new(program);
@@ -195,7 +195,7 @@ fn best_of(program: &str, words: &[&str]) -> (Output, Duration) {
     runs.fold(first, |best, run| if run.1 < best.1 { run } else { best })
 }
 
-/// The report of an answer, without the names of the columns' values.
+/// The line of what a run printed that tells the value.
 fn value_line(output: &Output) -> String {
     let text = String::from_utf8_lossy(&output.stdout);
     let mut lines = text.lines();
