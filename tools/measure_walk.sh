@@ -3,8 +3,9 @@
 #
 # The model has 6 columns of 10 numbers each, so a box of 1,000,000 points, of which the last 3
 # columns are the follower's, and 10 rows, of which the first 5 are the follower's. Both programs
-# solve it several times, and the best time of each counts. Build `mibs` first, by `rt run` in
-# crates/mibs_run. Needs rustc on the PATH.
+# solve it several times by turns, and the best time of each counts. Both times are of whole
+# processes, `mibs` reading its two texts. Build `mibs` first, by `rt run` in crates/mibs_run.
+# Needs rustc on the PATH.
 #
 # usage: tools/measure_walk.sh [MIBS] [SEED]
 set -euo pipefail
@@ -32,7 +33,7 @@ const FOLLOWERS: usize = 3;
 const ROWS: usize = 10;
 const LOWER_ROWS: usize = 5;
 const MOST: i64 = 9;
-const RUNS: usize = 7;
+const RUNS: usize = 15;
 
 struct Row {
     coef: Vec<i64>,
@@ -182,20 +183,32 @@ fn solve(model: &Model) -> Best {
     best
 }
 
-/// What a run prints and how long the whole process took, at best.
-fn best_of(program: &str, words: &[&str]) -> (Output, Duration) {
-    let mut runs = (0..RUNS).map(|_| {
-        let mut command = Command::new(program);
-        command.args(words).stderr(Stdio::inherit());
-        let start = Instant::now();
-        let output = command.output().expect("a program that runs");
-        (output, start.elapsed())
-    });
-    let first = runs.next().expect("one run at least");
-    runs.fold(first, |best, run| if run.1 < best.1 { run } else { best })
+/// What a run prints, and how long the whole process takes.
+fn timed(program: &str, words: &[&str]) -> (String, Duration) {
+    let start = Instant::now();
+    let output = Command::new(program).args(words).stderr(Stdio::inherit()).output();
+    let time = start.elapsed();
+    (value_line(&output.expect("a program that runs")), time)
 }
 
-/// The report of an answer, without the names of the columns' values.
+/// Runs both programs by turns, and prints the best time of each and their ratio.
+fn compare(plain: &str, mibs: &str, seed: &str) {
+    let (mut plain_best, mut mibs_best) = (Duration::MAX, Duration::MAX);
+    let mut value = String::new();
+    for _ in 0..RUNS {
+        let (plain_value, plain_time) = timed(plain, &["solve", seed]);
+        let (mibs_value, mibs_time) = timed(mibs, &["solve", "walk.mps", "walk.aux"]);
+        assert_eq!(plain_value, mibs_value, "the answers differ");
+        plain_best = plain_best.min(plain_time);
+        mibs_best = mibs_best.min(mibs_time);
+        value = plain_value;
+    }
+    let (plain_time, mibs_time) = (millis(plain_best), millis(mibs_best));
+    println!("{value}: plain Rust {plain_time:.1} ms, mibs {mibs_time:.1} ms");
+    println!("ratio {:.2}", mibs_time / plain_time);
+}
+
+/// The line of what a run printed that tells the value.
 fn value_line(output: &Output) -> String {
     let text = String::from_utf8_lossy(&output.stdout);
     let mut lines = text.lines();
@@ -218,14 +231,7 @@ fn main() {
             fs::write("walk.mps", mps(&model)).expect("a file to write");
             fs::write("walk.aux", aux(&model)).expect("a file to write");
         }
-        _ => {
-            let (plain, plain_time) = best_of(&words[0], &["solve", &words[2]]);
-            let (proved, proved_time) = best_of(&words[3], &["solve", "walk.mps", "walk.aux"]);
-            println!("plain Rust: {}, {:.1} ms", value_line(&plain), millis(plain_time));
-            println!("mibs:       {}, {:.1} ms", value_line(&proved), millis(proved_time));
-            println!("ratio:      {:.2}", millis(proved_time) / millis(plain_time));
-            assert_eq!(value_line(&plain), value_line(&proved), "the answers differ");
-        }
+        _ => compare(&words[0], &words[3], &words[2]),
     }
 }
 
