@@ -7,11 +7,11 @@ use crate::sizes::{are_within, rows_fit};
 use std::alloc::{AllocError, Global};
 use std::marker::Model;
 
-/// A row: the inequality `coef · z <= right`.
+/// A row: the inequality `coef · z <= rhs`.
 #[derive(Debug, Drop)]
 pub struct ProblemRow<'a> {
     coef: &'a [i64],
-    right: i64,
+    rhs: i64,
 }
 
 impl<'a> Model for ProblemRow<'a> {
@@ -21,7 +21,7 @@ impl<'a> Model for ProblemRow<'a> {
 
     ghost coded = { linear_code };
 
-    ghost view = { λ r. record { coef = r.coef.now; right = r.right } };
+    ghost view = { λ r. record { coef = r.coef.now; rhs = r.rhs } };
 }
 
 impl<'a> ProblemRow<'a> {
@@ -32,15 +32,15 @@ impl<'a> ProblemRow<'a> {
         self.coef
     }
 
-    /// The right side.
-    pub fn right(&self) -> i64
-        ensures { result ≡ self.now.right }
+    /// The right-hand side.
+    pub fn rhs(&self) -> i64
+        ensures { result ≡ self.now.rhs }
     {
-        self.right
+        self.rhs
     }
 }
 
-/// Rows `coef · z <= right`, a cost to be minimised, and a box: the range of each column. All numbers are lent.
+/// Rows `coef · z <= rhs`, a cost to be minimised, and a box: the range of each column. All numbers are lent.
 /// Contracts see it as the problem over whole numbers.
 #[derive(Debug, Drop)]
 pub struct Problem<'a> {
@@ -75,18 +75,18 @@ impl<'a> Problem<'a> {
         }
     }
 
-    /// Adds the row `coef · z <= right` at the end. After an error the problem is as before.
-    pub fn row(&mut self, coef: &'a [i64], right: i64) -> Result<(), AllocError>
+    /// Adds the row `coef · z <= rhs` at the end. After an error the problem is as before.
+    pub fn row(&mut self, coef: &'a [i64], rhs: i64) -> Result<(), AllocError>
         requires { length coef.now ≡ length self.old.area.lo }
-        ensures ok { OnOk result (self.new ≡ record self.old { rows = self.old.rows ++ record { coef = coef.now; right = right } ∷ [] }) }
+        ensures ok { OnOk result (self.new ≡ record self.old { rows = self.old.rows ++ record { coef = coef.now; rhs = rhs } ∷ [] }) }
         ensures err { OnErr result (self.new ≡ self.old) }
     {
-        self.rows.push(ProblemRow { coef, right })?;
+        self.rows.push(ProblemRow { coef, rhs })?;
         Ok(())
     }
 
     /// Whether the problem is small enough for exact arithmetic in 128 bits: at most 120 columns and 465 rows,
-    /// coefficients of magnitude at most `2^36`, right sides of at most `2^62`, costs and bounds of at most ten
+    /// coefficients of magnitude at most `2^36`, right-hand sides of at most `2^62`, costs and bounds of at most ten
     /// millions.
     pub fn fits(&self) -> bool
         ensures { IsTrue result ↔ Fits self.now }

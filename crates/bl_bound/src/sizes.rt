@@ -17,14 +17,14 @@ pub(crate) fn are_within(numbers: &[i64], most: u64) -> bool
     true
 }
 
-/// Whether the coefficients and right sides of the rows are small enough.
+/// Whether the coefficients and right-hand sides of the rows are small enough.
 pub(crate) fn rows_fit(rows: &[ProblemRow<'_>]) -> bool
     ensures { IsTrue result ↔ ((i : ℕ) → i < length rows.now →
-        AreWithin (2 ^ 36) (linear_at rows.now i).coef × IsWithin (2 ^ 62) (linear_at rows.now i).right) }
+        AreWithin (2 ^ 36) (linear_at rows.now i).coef × IsWithin (2 ^ 62) (linear_at rows.now i).rhs) }
 {
     for i in 0..rows.len() {
         let row = &rows[i];
-        if !are_within(row.coef(), 1 << 36) || 1 << 62 < row.right().unsigned_abs() {
+        if !are_within(row.coef(), 1 << 36) || 1 << 62 < row.rhs().unsigned_abs() {
             return false;
         }
     }

@@ -13,7 +13,7 @@ fn rows_stay_in_order(rt: HostRuntime) -> Result<(), Fail> {
     assert_eq!(rt; problem.rows().len(), 2);
     for (row, (coef, right)) in problem.rows().iter().zip([([-25, 20], 30), ([1, 2], 10)]) {
         assert_eq!(rt; row.coef(), coef.as_slice());
-        assert_eq!(rt; row.right(), right);
+        assert_eq!(rt; row.rhs(), right);
     }
     assert!(rt; problem.fits());
     problem.row(&coefs[0], (1 << 62) + 1)?;

@@ -4,15 +4,15 @@ use Rattle.std.specs.Prelude.{ℤ, pos, All, ◌==◌}
 use Rattle.std.specs.List.{range_with_len, AllByRecursion}
 use Rattle.std.proofs.lemmas.List.Elements.{recursion_from_All, All-head, All-tail, All-cons, All-nil}
 use Rattle.std.proofs.lemmas.List.FromFn.{get_or-map-range_with_len}
-use Rattle.bl_whole.specs.Sums.{entry}
+use Rattle.bl_whole.specs.Sums.{component}
 use Rattle.bl_terms.specs.Programs.{Row}
-use Rattle.bl_model.specs.declared.raw.RawRow.{RawRow}
-use Rattle.bl_model.specs.declared.raw.RawColumn.{RawColumn}
-use Rattle.bl_model.specs.Raw.{IsSmall, IsColumn}
+use Rattle.bl_raw.specs.declared.raw.RawRow.{RawRow}
+use Rattle.bl_raw.specs.declared.raw.RawColumn.{RawColumn}
+use Rattle.bl_raw.specs.Raw.{IsSmall, IsColumn}
 use Rattle.bl_model.specs.Build.{number_at, is_among, dense_column, coefficients, upper_side, lower_side, rows_from}
 
 -- a row's coefficients, read from the columns
-pub coefficients_from_dense : (columns : List RawColumn) (n i : ℕ) → i < n → map (λ numbers. entry numbers i) (map (λ c. dense_column n c) columns) ≡ coefficients columns i
+pub coefficients_from_dense : (columns : List RawColumn) (n i : ℕ) → i < n → map (λ numbers. component numbers i) (map (λ c. dense_column n c) columns) ≡ coefficients columns i
 coefficients_from_dense [] n i below = refl
 coefficients_from_dense (c ∷ cs) n i below =
     rw (get_or-map-range_with_len (number_at c.entries) 0 n i i (pos 0) below (omega arith), coefficients_from_dense cs n i below) refl
@@ -44,6 +44,6 @@ pub mark_at : (places : List ℕ) (n i : ℕ) (marks : List Bool) (d : Bool) →
 mark_at places n i marks d is below = rw is (get_or-map-range_with_len (is_among places) 0 n i i d below (omega arith))
 
 -- the coefficients that are read from the dense columns are the text's
-pub coefficients_read : (columns : List RawColumn) (n i : ℕ) (dense : List (List ℤ)) (coef : List ℤ) → i < n → dense ≡ map (λ c. dense_column n c) columns → coef ≡ map (λ numbers. entry numbers i) dense → coef ≡ coefficients columns i
+pub coefficients_read : (columns : List RawColumn) (n i : ℕ) (dense : List (List ℤ)) (coef : List ℤ) → i < n → dense ≡ map (λ c. dense_column n c) columns → coef ≡ map (λ numbers. component numbers i) dense → coef ≡ coefficients columns i
 coefficients_read columns n i dense coef below dense-is coef-is =
-    coef-is ∙ ap (map (λ (numbers : List ℤ). entry numbers i)) dense-is ∙ coefficients_from_dense columns n i below
+    coef-is ∙ ap (map (λ (numbers : List ℤ). component numbers i)) dense-is ∙ coefficients_from_dense columns n i below

@@ -5,8 +5,8 @@ use Rattle.std.specs.List.{range_with_len, zip, AllByRecursion}
 use Rattle.std.proofs.lemmas.List.Elements.{recursion_from_All, All-from_recursion}
 use Rattle.std.proofs.lemmas.List.FromFn.{length-map-range_with_len, get_or-map-range_with_len}
 use Rattle.bl_terms.specs.Programs.{Row}
-use Rattle.bl_model.specs.declared.raw.RawMps.{RawMps}
-use Rattle.bl_model.specs.declared.raw.RawAux.{RawAux}
+use Rattle.bl_raw.specs.declared.raw.RawMps.{RawMps}
+use Rattle.bl_raw.specs.declared.raw.RawAux.{RawAux}
 use Rattle.bl_model.specs.Build.{is_among, is_link, link_mark, number_at, rows_of, follower_numbers, places_where, program_of}
 use Rattle.bl_model.proofs.SoundLemmas.{places_where-agree}
 

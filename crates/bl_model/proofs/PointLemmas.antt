@@ -2,31 +2,31 @@
 use Rattle.std.proofs.Common.{◌<◌, ◌≤◌, length, arith, sym, ◌∙◌}
 use Rattle.std.specs.Prelude.{ℤ, List}
 use Rattle.std.proofs.lemmas.Int.{ints}
-use Rattle.bl_whole.specs.Sums.{entry}
+use Rattle.bl_whole.specs.Sums.{component}
 use Rattle.bl_whole.specs.Within.{AreWithin}
 use Rattle.bl_whole.proofs.WithinLemmas.{within_low, within_high, within_from_bounds}
-use Rattle.bl_terms.specs.Programs.{Program, In, columns}
+use Rattle.bl_terms.specs.Programs.{Program, InBox, columns}
 use Rattle.bl_model.specs.View.{IsModel}
 use Rattle.bl_model.specs.Points.{AreShort}
 
 -- a point of the box has small numbers
-pub In-within : (p : Program) (z : List ℤ) → IsModel p → In p z → AreWithin 10000000 z
-In-within p z m is = record {
+pub InBox-within : (p : Program) (z : List ℤ) → IsModel p → InBox p z → AreWithin 10000000 z
+InBox-within p z m is = record {
   each = λ k below.
       let at : k < columns p = omega (arith, below, is.columns) in
-      let low = within_low (m.limits.los k) in
-      let high = within_high (m.limits.his k) in
+      let low = within_low (m.limits.lower_bounds k) in
+      let high = within_high (m.limits.upper_bounds k) in
       let least = is.least k at in
       let most = is.most k at in
-      within_from_bounds 10000000 (entry z k) (omega (arith, ints)) (omega (arith, ints));
+      within_from_bounds 10000000 (component z k) (omega (arith, ints)) (omega (arith, ints));
 }
 
 -- and there are few of them
-pub In-few : (p : Program) (z : List ℤ) → IsModel p → In p z → length z ≤ 120
+pub In-few : (p : Program) (z : List ℤ) → IsModel p → InBox p z → length z ≤ 120
 In-few p z m is = omega (arith, is.columns, m.limits.few_columns)
 
 -- the rows fit the point
-pub rows-short : (p : Program) (z : List ℤ) → IsModel p → In p z → AreShort (length z) p.rows
+pub rows-short : (p : Program) (z : List ℤ) → IsModel p → InBox p z → AreShort (length z) p.rows
 rows-short p z m is = record {
   each = λ i below. record {
     count = m.sound.row_columns i below ∙ sym is.columns;

@@ -7,15 +7,15 @@ use Rattle.std.proofs.lemmas.Bool.{false_from_ne_true, cases_lt}
 use Rattle.std.proofs.lemmas.List.{length-map, length-append, get_or_past}
 use Rattle.std.proofs.lemmas.List.Elements.{All-nil, All-cons, All-append, All-get_or, recursion_from_All}
 use Rattle.std.proofs.lemmas.List.FromFn.{length-map-range_with_len, get_or-map-range_with_len}
-use Rattle.bl_whole.specs.Sums.{entry}
+use Rattle.bl_whole.specs.Sums.{component}
 use Rattle.bl_whole.specs.Within.{IsWithin}
 use Rattle.bl_whole.proofs.WithinLemmas.{within_zero, within_negation}
 use Rattle.bl_terms.specs.Programs.{Row, no_row, columns, IsProgram, KeepsLimits}
-use Rattle.bl_model.specs.declared.raw.RawRow.{RawRow}
-use Rattle.bl_model.specs.declared.raw.RawColumn.{RawColumn}
-use Rattle.bl_model.specs.declared.raw.RawMps.{RawMps}
-use Rattle.bl_model.specs.declared.raw.RawAux.{RawAux}
-use Rattle.bl_model.specs.Raw.{IsSmall, IsSide, IsSense, IsRow, IsColumn, FitsModel, KeepsLimits as TextKeepsLimits}
+use Rattle.bl_raw.specs.declared.raw.RawRow.{RawRow}
+use Rattle.bl_raw.specs.declared.raw.RawColumn.{RawColumn}
+use Rattle.bl_raw.specs.declared.raw.RawMps.{RawMps}
+use Rattle.bl_raw.specs.declared.raw.RawAux.{RawAux}
+use Rattle.bl_raw.specs.Raw.{IsSmall, IsSide, IsSense, IsRow, IsColumn, FitsModel, IsRawModel}
 use Rattle.bl_model.specs.Build.{is_among, is_link, number_at, coefficients, upper_side, lower_side, sides, rows_from, follower_numbers, program_of}
 use Rattle.bl_model.proofs.BuildLemmas.{IsSmall-number_at}
 use Rattle.bl_model.proofs.SoundLemmas.{places_where-rising, passes_from_Contains, Contains-from_passes, Decides-is_among, Decides-is_link}
@@ -23,19 +23,19 @@ use Rattle.bl_model.proofs.SoundLemmas.{places_where-rising, passes_from_Contain
 -- ---- sizes
 
 -- every number of a list of columns' numbers is small, also past the end
-within_columns : (f : RawColumn → ℤ) (n : ℕ) (cs : List RawColumn) → ((c : RawColumn) → IsColumn n c → IsSmall (f c)) → AllByRecursion (IsColumn n) cs → (k : ℕ) → IsWithin 10000000 (entry (map f cs) k)
+within_columns : (f : RawColumn → ℤ) (n : ℕ) (cs : List RawColumn) → ((c : RawColumn) → IsColumn n c → IsSmall (f c)) → AllByRecursion (IsColumn n) cs → (k : ℕ) → IsWithin 10000000 (component (map f cs) k)
 within_columns f n [] small h k = within_zero 10000000
 within_columns f n (c ∷ cs) small h zero = record { magnitude = small c h.0 }
 within_columns f n (c ∷ cs) small h (suc k) = within_columns f n cs small h.1 k
 
 -- each column's range
-ordered_columns : (n : ℕ) (cs : List RawColumn) → AllByRecursion (IsColumn n) cs → (k : ℕ) → k < length (map (λ c. c.lo) cs) → entry (map (λ c. c.lo) cs) k ≤ℤ entry (map (λ c. c.hi) cs) k
+ordered_columns : (n : ℕ) (cs : List RawColumn) → AllByRecursion (IsColumn n) cs → (k : ℕ) → k < length (map (λ c. c.lo) cs) → component (map (λ c. c.lo) cs) k ≤ℤ component (map (λ c. c.hi) cs) k
 ordered_columns n [] h k below = absurd (omega (arith, below))
 ordered_columns n (c ∷ cs) h zero below = h.0.ordered
 ordered_columns n (c ∷ cs) h (suc k) below = ordered_columns n cs h.1 k (omega (arith, below))
 
 -- the numbers of a row's sides
-within_negated : (m : ℕ) (coef : List ℤ) → ((k : ℕ) → IsWithin m (entry coef k)) → (k : ℕ) → IsWithin m (entry (map neg_ℤ coef) k)
+within_negated : (m : ℕ) (coef : List ℤ) → ((k : ℕ) → IsWithin m (component coef k)) → (k : ℕ) → IsWithin m (component (map neg_ℤ coef) k)
 within_negated m [] h k = within_zero m
 within_negated m (x ∷ xs) h zero = within_negation (h zero)
 within_negated m (x ∷ xs) h (suc k) = within_negated m xs (λ j. h (suc j)) k
@@ -43,19 +43,19 @@ within_negated m (x ∷ xs) h (suc k) = within_negated m xs (λ j. h (suc j)) k
 -- a row of the program: one coefficient for each column, and all numbers within their limits
 record IsSound (n : ℕ) (r : Row) : Type 0 where
   count : length r.coef ≡ n
-  coefs : (k : ℕ) → IsWithin 10000000 (entry r.coef k)
-  right : IsWithin 2000000000000000 r.right
+  coefs : (k : ℕ) → IsWithin 10000000 (component r.coef k)
+  rhs : IsWithin 2000000000000000 r.rhs
 
-sound_upper : (n : ℕ) (coef : List ℤ) (lower : Bool) (hi : Option ℤ) → length coef ≡ n → ((k : ℕ) → IsWithin 10000000 (entry coef k)) → IfSome hi IsSide → All (IsSound n) (upper_side coef lower hi)
+sound_upper : (n : ℕ) (coef : List ℤ) (lower : Bool) (hi : Option ℤ) → length coef ≡ n → ((k : ℕ) → IsWithin 10000000 (component coef k)) → IfSome hi IsSide → All (IsSound n) (upper_side coef lower hi)
 sound_upper n coef lower None count coefs side = All-nil (IsSound n)
 sound_upper n coef lower (Some hi) count coefs side =
-    All-cons (IsSound n) (record { coef = coef; right = hi; lower = lower }) [] (record { count = count; coefs = coefs; right = record { magnitude = side } }) (All-nil (IsSound n))
+    All-cons (IsSound n) (record { coef = coef; rhs = hi; lower = lower }) [] (record { count = count; coefs = coefs; rhs = record { magnitude = side } }) (All-nil (IsSound n))
 
-sound_lower : (n : ℕ) (coef : List ℤ) (lower : Bool) (lo : Option ℤ) → length coef ≡ n → ((k : ℕ) → IsWithin 10000000 (entry coef k)) → IfSome lo IsSide → All (IsSound n) (lower_side coef lower lo)
+sound_lower : (n : ℕ) (coef : List ℤ) (lower : Bool) (lo : Option ℤ) → length coef ≡ n → ((k : ℕ) → IsWithin 10000000 (component coef k)) → IfSome lo IsSide → All (IsSound n) (lower_side coef lower lo)
 sound_lower n coef lower None count coefs side = All-nil (IsSound n)
 sound_lower n coef lower (Some lo) count coefs side =
-    All-cons (IsSound n) (record { coef = map neg_ℤ coef; right = neg_ℤ lo; lower = lower }) []
-    (record { count = length-map coef neg_ℤ ∙ count; coefs = within_negated 10000000 coef coefs; right = within_negation (record { magnitude = side }) })
+    All-cons (IsSound n) (record { coef = map neg_ℤ coef; rhs = neg_ℤ lo; lower = lower }) []
+    (record { count = length-map coef neg_ℤ ∙ count; coefs = within_negated 10000000 coef coefs; rhs = within_negation (record { magnitude = side }) })
     (All-nil (IsSound n))
 
 sound_rows : (m : ℕ) (cs : List RawColumn) (lower_rows : List ℕ) (i : ℕ) (rows : List RawRow) → AllByRecursion (IsColumn m) cs → AllByRecursion IsRow rows → All (IsSound (length cs)) (rows_from cs lower_rows i rows)
@@ -65,7 +65,7 @@ sound_rows m cs lower_rows i (row ∷ rows) sound each =
     let coef = coefficients cs i in
     let lower = is_among lower_rows i in
     let count : length coef ≡ n = length-map cs (λ c. number_at c.entries i) in
-    let coefs : (k : ℕ) → IsWithin 10000000 (entry coef k) = within_columns (λ c. number_at c.entries i) m cs (λ c is. IsSmall-number_at c.entries i (recursion_from_All (λ e. IsSmall e.1) c.entries is.small)) sound in
+    let coefs : (k : ℕ) → IsWithin 10000000 (component coef k) = within_columns (λ c. number_at c.entries i) m cs (λ c is. IsSmall-number_at c.entries i (recursion_from_All (λ e. IsSmall e.1) c.entries is.small)) sound in
     All-append (IsSound n) (sides cs lower_rows i row) (rows_from cs lower_rows (i + 1) rows)
     (All-append (IsSound n) (upper_side coef lower row.hi) (lower_side coef lower row.lo) (sound_upper n coef lower row.hi count coefs each.0.hi) (sound_lower n coef lower row.lo count coefs each.0.lo))
     (sound_rows m cs lower_rows (i + 1) rows sound each.1)
@@ -110,7 +110,7 @@ absent (p ∷ ps) (v ∷ vs) k h = go (k == p) (is_among ps k) h (absent ps vs k
     go false r e f = f e
 
 -- a function's values at places, also past the end
-at_places : (f : ℕ → ℤ) (n k : ℕ) → (P : ℤ → Type 0) → P (pos 0) → (k < n → P (f k)) → P (entry (map f (range_with_len 0 n)) k)
+at_places : (f : ℕ → ℤ) (n k : ℕ) → (P : ℤ → Type 0) → P (pos 0) → (k < n → P (f k)) → P (component (map f (range_with_len 0 n)) k)
 at_places f n k P past here =
     ⊎_elim
     (λ below. rw (get_or-map-range_with_len f 0 n k k (pos 0) below (omega arith)) (here below))
@@ -119,7 +119,7 @@ at_places f n k P past here =
 
 -- ---- the program
 
-pub program-sound : (mps : RawMps) (aux : RawAux) → TextKeepsLimits mps → FitsModel (length mps.columns) (length mps.rows) aux → IsProgram (program_of mps aux)
+pub program-sound : (mps : RawMps) (aux : RawAux) → IsRawModel mps → FitsModel (length mps.columns) (length mps.rows) aux → IsProgram (program_of mps aux)
 unfolding program_of
 program-sound mps aux keeps fits =
     let cs = mps.columns in
@@ -156,7 +156,7 @@ program-sound mps aux keeps fits =
       sign = fits.sense;
     }
 
-pub program-limits : (mps : RawMps) (aux : RawAux) → TextKeepsLimits mps → FitsModel (length mps.columns) (length mps.rows) aux → KeepsLimits (program_of mps aux)
+pub program-limits : (mps : RawMps) (aux : RawAux) → IsRawModel mps → FitsModel (length mps.columns) (length mps.rows) aux → KeepsLimits (program_of mps aux)
 unfolding program_of
 program-limits mps aux keeps fits =
     let cs = mps.columns in
@@ -170,9 +170,9 @@ program-limits mps aux keeps fits =
       few_columns = omega (arith, keeps.column_count, length-map cs (λ c. c.lo));
       few_rows = omega (arith, keeps.row_count, few_rows cs aux.rows 0 mps.rows);
       coefs = λ i k below. (All-get_or (IsSound n) p.rows i no_row below rows).coefs k;
-      rights = λ i below. (All-get_or (IsSound n) p.rows i no_row below rows).right;
+      rhs = λ i below. (All-get_or (IsSound n) p.rows i no_row below rows).rhs;
       costs = within_columns (λ c. c.cost) m cs (λ c is. is.cost) sound;
       follower_costs = λ k. at_places (number_at (follower_numbers aux)) n k (IsWithin 10000000) (within_zero 10000000) (λ below. record { magnitude = IsSmall-number_at (follower_numbers aux) k costs });
-      los = within_columns (λ c. c.lo) m cs (λ c is. is.lo) sound;
-      his = within_columns (λ c. c.hi) m cs (λ c is. is.hi) sound;
+      lower_bounds = within_columns (λ c. c.lo) m cs (λ c is. is.lo) sound;
+      upper_bounds = within_columns (λ c. c.hi) m cs (λ c is. is.hi) sound;
     }

@@ -14,7 +14,7 @@ use Rattle.std.proofs.lemmas.List.Elements.{Contains-append_cases, Contains-appe
 use Rattle.std.proofs.lemmas.List.FromFn.{length-range_with_len, get_or-range_with_len}
 use Rattle.std.proofs.lemmas.List.Kept.{IsStrictlyIncreasing-filter}
 use Rattle.std.proofs.lemmas.List.Folds.{Any-from_list_any, list_any_at}
-use Rattle.bl_whole.specs.Sums.{entry}
+use Rattle.bl_whole.specs.Sums.{component}
 use Rattle.bl_terms.specs.Programs.{Row, Program, row_at, no_row, IsInLower}
 use Rattle.bl_model.specs.Build.{is_among, is_in_lower, is_link, places_where}
 use Rattle.bl_model.proofs.PlaceLemmas.{places_where_more}
@@ -78,12 +78,12 @@ Decides-is_among places k = (λ yes. Contains-from_any {eq = nat_eq} (λ x y e. 
 
 -- a row of the follower with a coefficient other than 0 in column k
 abbrev stands : ℕ → Row → Bool
-stands k r = r.lower && not (int_eq (entry r.coef k) (pos 0))
+stands k r = r.lower && not (int_eq (component r.coef k) (pos 0))
 
-stands_decides : (k : ℕ) (r : Row) → Decides (stands k r) ((r.lower ≡ true) × (entry r.coef k ≢ pos 0))
+stands_decides : (k : ℕ) (r : Row) → Decides (stands k r) ((r.lower ≡ true) × (component r.coef k ≢ pos 0))
 stands_decides k r =
-    Decides-and r.lower (not (int_eq (entry r.coef k) (pos 0))) (λ yes. yes, λ yes. yes)
-    (Decides-not (int_eq (entry r.coef k) (pos 0)) (Decides-int_eq (entry r.coef k) (pos 0)))
+    Decides-and r.lower (not (int_eq (component r.coef k) (pos 0))) (λ yes. yes, λ yes. yes)
+    (Decides-not (int_eq (component r.coef k) (pos 0)) (Decides-int_eq (component r.coef k) (pos 0)))
 
 -- the test that a row of the follower has a coefficient other than 0 in column k
 pub Decides-is_in_lower : (p : Program) (k : ℕ) → Decides (is_in_lower p.rows k) (IsInLower p k)

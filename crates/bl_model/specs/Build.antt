@@ -2,12 +2,12 @@
 use Rattle.std.specs.Prelude.{ℕ, ◌+◌, Bool, false, ◌==◌, nat_eq, ◌&&◌, not, if◌then◌else◌, List, [], ◌∷◌, ◌++◌, length, map, filter, ℤ, pos, neg_ℤ, ◌*ℤ◌, Option, None, Some, slice_index_or}
 use Rattle.std.specs.List.{list_any, zip, range_with_len}
 use Rattle.std.specs.Ordering.{int_eq}
-use Rattle.bl_whole.specs.Sums.{entry}
+use Rattle.bl_whole.specs.Sums.{component}
 use Rattle.bl_terms.specs.Programs.{Row, Program}
-use Rattle.bl_model.specs.declared.raw.RawRow.{RawRow}
-use Rattle.bl_model.specs.declared.raw.RawColumn.{RawColumn}
-use Rattle.bl_model.specs.declared.raw.RawMps.{RawMps}
-use Rattle.bl_model.specs.declared.raw.RawAux.{RawAux}
+use Rattle.bl_raw.specs.declared.raw.RawRow.{RawRow}
+use Rattle.bl_raw.specs.declared.raw.RawColumn.{RawColumn}
+use Rattle.bl_raw.specs.declared.raw.RawMps.{RawMps}
+use Rattle.bl_raw.specs.declared.raw.RawAux.{RawAux}
 
 -- whether place k is among these
 abbrev pub is_among : List ℕ → ℕ → Bool
@@ -29,12 +29,12 @@ coefficients columns i = map (λ c. number_at c.entries i) columns
 -- coef · z <= hi
 abbrev pub upper_side : List ℤ → Bool → Option ℤ → List Row
 upper_side coef lower None = []
-upper_side coef lower (Some hi) = record { coef = coef; right = hi; lower = lower } ∷ []
+upper_side coef lower (Some hi) = record { coef = coef; rhs = hi; lower = lower } ∷ []
 
 -- -coef · z <= -lo
 abbrev pub lower_side : List ℤ → Bool → Option ℤ → List Row
 lower_side coef lower None = []
-lower_side coef lower (Some lo) = record { coef = map neg_ℤ coef; right = neg_ℤ lo; lower = lower } ∷ []
+lower_side coef lower (Some lo) = record { coef = map neg_ℤ coef; rhs = neg_ℤ lo; lower = lower } ∷ []
 
 -- the rows of row i of the text: its upper side's, and then its lower side's
 abbrev pub sides : List RawColumn → List ℕ → ℕ → RawRow → List Row
@@ -52,7 +52,7 @@ follower_numbers aux = zip aux.columns (map (λ cost. cost *ℤ aux.sense) aux.c
 
 -- some row of the follower has a coefficient other than 0 in column k
 abbrev pub is_in_lower : List Row → ℕ → Bool
-is_in_lower rows k = list_any (λ r. r.lower && not (int_eq (entry r.coef k) (pos 0))) rows
+is_in_lower rows k = list_any (λ r. r.lower && not (int_eq (component r.coef k) (pos 0))) rows
 
 -- column k is the leader's, and stands in a row of the follower
 abbrev pub is_link : List ℕ → List Row → ℕ → Bool

@@ -1,4 +1,3 @@
 pub mod Build
 pub mod Points
-pub mod Raw
 pub mod View

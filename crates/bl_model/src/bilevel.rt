@@ -35,7 +35,7 @@ impl Model for Bilevel {
 
 impl Bilevel {
     ghost use Rattle.std.specs.Prelude.{◌≡◌, ◌↔◌, IsTrue};
-    ghost use Rattle.bl_terms.specs.Programs.{In, Rows, Lower, cost_at, follower_at};
+    ghost use Rattle.bl_terms.specs.Programs.{InBox, MeetsRows, MeetsLowerRows, cost_at, follower_at};
     ghost use Rattle.bl_model.specs.View.{IsModel};
 
     /// The least number of each column.
@@ -105,30 +105,30 @@ impl Bilevel {
 
     /// Whether the point lies in the box: one number for each column, each in its range.
     pub fn in_box(&self, z: &[i64]) -> bool
-        ensures { IsTrue result ↔ In self.now z.now }
+        ensures { IsTrue result ↔ InBox self.now z.now }
     {
         lies_in(&self.lo, &self.hi, z)
     }
 
     /// Whether a point of the box meets all rows.
     pub fn meets_rows(&self, z: &[i64]) -> bool
-        requires { In self.now z.now }
-        ensures { IsTrue result ↔ Rows self.now z.now }
+        requires { InBox self.now z.now }
+        ensures { IsTrue result ↔ MeetsRows self.now z.now }
     {
         meets_all(&self.rows, z)
     }
 
     /// Whether a point of the box meets the follower's rows.
     pub fn meets_lower(&self, z: &[i64]) -> bool
-        requires { In self.now z.now }
-        ensures { IsTrue result ↔ Lower self.now z.now }
+        requires { InBox self.now z.now }
+        ensures { IsTrue result ↔ MeetsLowerRows self.now z.now }
     {
         meets_marked(&self.rows, z)
     }
 
     /// The leader's cost of a point of the box.
     pub fn cost_of(&self, z: &[i64]) -> i64
-        requires { In self.now z.now }
+        requires { InBox self.now z.now }
         ensures { result ≡ cost_at self.now z.now }
     {
         dot(&self.cost, z)
@@ -136,7 +136,7 @@ impl Bilevel {
 
     /// The follower's cost of a point of the box, as it is minimised.
     pub fn follower_of(&self, z: &[i64]) -> i64
-        requires { In self.now z.now }
+        requires { InBox self.now z.now }
         ensures { result ≡ follower_at self.now z.now }
     {
         dot(&self.follower_cost, z)

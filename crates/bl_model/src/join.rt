@@ -1,16 +1,16 @@
 //! The program that is made of the two texts.
 
 ghost use Rattle.std.specs.Prelude.{◌≡◌, ◌++◌, ◌<◌, not, ◌&&◌, neg_ℤ, ◌*ℤ◌, length, map, All, IfOk, IfSome, OnOk};
-ghost use Rattle.bl_whole.specs.Sums.{entry};
+ghost use Rattle.bl_whole.specs.Sums.{component};
 ghost use Rattle.std.specs.List.{range_with_len};
-ghost use Rattle.bl_model.specs.Raw.{KeepsLimits, FitsModel, IsSmall, IsSide, IsSense, IsRow, IsColumn};
+ghost use Rattle.bl_raw.specs.Raw.{IsRawModel, FitsModel, IsSmall, IsSide, IsSense, IsRow, IsColumn};
 ghost use Rattle.bl_model.specs.Build.{dense_column, upper_side, lower_side, rows_from, follower_numbers, number_at, is_in_lower, link_mark, program_of};
 
 use crate::bilevel::Bilevel;
 use crate::places::{marked, marks, numbers};
 use crate::raw::{RawAux, RawColumn, RawMps, RawRow};
 use crate::row::BRow;
-use bl_list::Listed;
+use bl_raw::Listed;
 use std::alloc::{AllocError, Global};
 
 // The coefficients of each column, one for each row.
@@ -35,7 +35,7 @@ fn row_coefficients(
     dense: &[Listed<i64>],
     row: usize,
 ) -> Result<Vec<i64>, AllocError>
-    ensures { IfOk result (λ coef. coef.items ≡ map (λ numbers. entry numbers row) dense.now) }
+    ensures { IfOk result (λ coef. coef.items ≡ map (λ numbers. component numbers row) dense.now) }
 {
     let mut coef = Vec::with_capacity(alloc, dense.len())?;
     for numbers in dense {
@@ -216,7 +216,7 @@ fn costs(alloc: Global, columns: &[RawColumn]) -> Result<Vec<i64>, AllocError>
 /// round where he maximises, and the linking columns, which are those of the leader that stand in
 /// a row of the follower.
 pub fn build(alloc: Global, mps: &RawMps, aux: &RawAux) -> Result<Bilevel, AllocError>
-    requires mps { KeepsLimits mps.now }
+    requires mps { IsRawModel mps.now }
     requires aux { FitsModel (length mps.now.columns) (length mps.now.rows) aux.now }
     ensures { IfOk result (λ model. model ≡ program_of mps.now aux.now) }
 {

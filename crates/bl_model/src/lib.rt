@@ -5,13 +5,12 @@ mod bilevel;
 mod join;
 mod places;
 mod points;
-mod raw;
+
 mod row;
 #[cfg(test)]
 mod tests;
 
 pub use bilevel::Bilevel;
-pub use bl_list::Listed;
+pub use bl_raw::{Listed, Name, RawAux, RawColumn, RawMps, RawRow};
 pub use join::build;
-pub use raw::{Name, RawAux, RawColumn, RawMps, RawRow};
 pub use row::BRow;

@@ -9,7 +9,7 @@ ghost use Rattle.bl_terms.specs.Programs.{inequality};
 ghost use Rattle.bl_model.specs.Points.{MeetsAll, MeetsMarked, AreShort, IsShort};
 
 use crate::row::BRow;
-use bl_whole::long::plus_product;
+use bl_whole::int64::plus_product;
 
 /// The sum of the products at each place.
 pub(crate) fn dot(coef: &[i64], z: &[i64]) -> i64

@@ -18,5 +18,5 @@ impl Model for BRow {
 
     ghost coded = { row_code };
 
-    ghost view = { λ r. record { coef = r.coef.items; right = r.right; lower = r.lower } };
+    ghost view = { λ r. record { coef = r.coef.items; rhs = r.right; lower = r.lower } };
 }

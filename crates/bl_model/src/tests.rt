@@ -1,7 +1,7 @@
 //! Programs made of two texts, and tests of points, at answers worked out by hand.
 
 ghost use Rattle.std.specs.Prelude.{◌≡◌, [], length, All, IfOk};
-ghost use Rattle.bl_model.specs.Raw.{KeepsLimits, FitsModel, IsRow, IsColumn, IsSmall, IsSense};
+ghost use Rattle.bl_raw.specs.Raw.{IsRawModel, FitsModel, IsRow, IsColumn, IsSmall, IsSense};
 
 use super::*;
 use std::alloc::Global;
@@ -45,7 +45,7 @@ fn column(alloc: Global, cost: i64, coef: [i64; 4]) -> Result<RawColumn, Fail>
 /// Moore and Bard's rows and columns, with these sides in place of theirs.
 fn moore_and_bard(alloc: Global, rows: [RawRow; 4]) -> Result<RawMps, Fail>
     requires { All IsRow rows }
-    ensures limits { IfOk result KeepsLimits }
+    ensures limits { IfOk result IsRawModel }
     ensures columns { IfOk result (λ mps. length mps.columns ≡ 2) }
     ensures rows { IfOk result (λ mps. length mps.rows ≡ 4) }
 {

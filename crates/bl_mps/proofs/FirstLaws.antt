@@ -5,8 +5,8 @@ use Rattle.std.proofs.lemmas.List.{get_or-map, get_or_default, same_from_push}
 use Rattle.std.proofs.lemmas.List.FromFn.{length-map-range_with_len, get_or-map-range_with_len}
 use Rattle.std.proofs.lemmas.Bool.{leb-true, le-leb}
 use Rattle.bl_text.specs.Lines.{lines_of}
-use Rattle.bl_model.specs.declared.raw.RawColumn.{RawColumn}
-use Rattle.bl_model.specs.declared.raw.RawMps.{RawMps}
+use Rattle.bl_raw.specs.declared.raw.RawColumn.{RawColumn}
+use Rattle.bl_raw.specs.declared.raw.RawMps.{RawMps}
 use Rattle.bl_mps.specs.Lines.{Bytes}
 use Rattle.bl_mps.specs.Numbers.{◌>>=◌}
 use Rattle.bl_mps.specs.Rows.{RowList, rows_in}

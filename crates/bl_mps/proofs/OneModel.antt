@@ -1,9 +1,9 @@
 -- A text says one model at most.
 use Rattle.std.proofs.Common.{◌≡◌, ℕ, List, [], ◌∷◌, Some, ℤ, refl, sym, ap, map, codes, ◌∙◌}
 use Rattle.std.specs.List.{AllZip}
-use Rattle.bl_model.specs.declared.raw.RawRow.{RawRow}
-use Rattle.bl_model.specs.declared.raw.RawColumn.{RawColumn}
-use Rattle.bl_model.specs.declared.raw.RawMps.{RawMps}
+use Rattle.bl_raw.specs.declared.raw.RawRow.{RawRow}
+use Rattle.bl_raw.specs.declared.raw.RawColumn.{RawColumn}
+use Rattle.bl_raw.specs.declared.raw.RawMps.{RawMps}
 use Rattle.bl_mps.specs.Lines.{Bytes}
 use Rattle.bl_mps.specs.Parts.{field, under}
 use Rattle.bl_mps.specs.Meaning.{appeared, column_lines, IsColumnMeant, Reads, SaysOneModel}

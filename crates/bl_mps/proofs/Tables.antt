@@ -6,7 +6,7 @@ use Rattle.std.specs.List.Sorted.{IsStrictlyIncreasing}
 use Rattle.std.proofs.lemmas.Bool.{cases_lt}
 use Rattle.std.proofs.lemmas.List.{get_or_append_left, get_or_push, length_push, length-map, get_or-map, map_push}
 use Rattle.std.proofs.lemmas.List.Elements.{All-push}
-use Rattle.bl_model.specs.Raw.{IsSmall}
+use Rattle.bl_raw.specs.Raw.{IsSmall}
 use Rattle.bl_mps.specs.Entries.{AreEntries}
 use Rattle.bl_mps.specs.First.{number_at}
 use Rattle.bl_mps.specs.Numbers.{AreWithin}

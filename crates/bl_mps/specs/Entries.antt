@@ -1,7 +1,7 @@
 -- Coefficients beside their rows.
 use Rattle.std.specs.Prelude.{ℕ, ◌<◌, List, map, ℤ, All}
 use Rattle.std.specs.List.Sorted.{IsStrictlyIncreasing}
-use Rattle.bl_model.specs.Raw.{IsSmall}
+use Rattle.bl_raw.specs.Raw.{IsSmall}
 
 -- small coefficients at rising rows, each below this number of rows
 pub record AreEntries (rows : ℕ) (entries : List (ℕ × ℤ)) : Type 0 where

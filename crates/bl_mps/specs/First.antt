@@ -5,9 +5,9 @@ use Rattle.bl_text.specs.Fields.{fields_of}
 use Rattle.bl_text.specs.Lines.{lines_of}
 use Rattle.bl_mps.specs.declared.rows.Sense.{Sense}
 use Rattle.bl_mps.specs.declared.rows.Sense.TheVariants.{AtMost, AtLeast}
-use Rattle.bl_model.specs.declared.raw.RawRow.{RawRow}
-use Rattle.bl_model.specs.declared.raw.RawColumn.{RawColumn}
-use Rattle.bl_model.specs.declared.raw.RawMps.{RawMps}
+use Rattle.bl_raw.specs.declared.raw.RawRow.{RawRow}
+use Rattle.bl_raw.specs.declared.raw.RawColumn.{RawColumn}
+use Rattle.bl_raw.specs.declared.raw.RawMps.{RawMps}
 use Rattle.bl_mps.specs.Lines.{Bytes}
 use Rattle.bl_mps.specs.Numbers.{◌>>=◌}
 use Rattle.bl_mps.specs.Rows.{RowList, rows_in}

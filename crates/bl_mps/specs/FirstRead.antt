@@ -1,6 +1,6 @@
 -- What a reader of the first form gives.
 use Rattle.std.specs.Prelude.{ℕ, ℤ, List, Option, None, Some}
-use Rattle.bl_model.specs.declared.raw.RawMps.{RawMps}
+use Rattle.bl_raw.specs.declared.raw.RawMps.{RawMps}
 use Rattle.bl_mps.specs.FirstForm.{IsFirstForm}
 use Rattle.bl_mps.specs.Meaning.{Reads}
 

@@ -3,9 +3,9 @@ use Rattle.std.specs.Prelude.{◌≡◌, ℕ, ◌-◌, ◌^◌, ◌%◌, Bool, n
 use Rattle.std.specs.Option.{option_map}
 use Rattle.std.specs.List.{flat_map, list_any, enumerate_from, AllZip}
 use Rattle.std.specs.Str.{bytes_eq}
-use Rattle.bl_model.specs.declared.raw.RawRow.{RawRow}
-use Rattle.bl_model.specs.declared.raw.RawColumn.{RawColumn}
-use Rattle.bl_model.specs.declared.raw.RawMps.{RawMps}
+use Rattle.bl_raw.specs.declared.raw.RawRow.{RawRow}
+use Rattle.bl_raw.specs.declared.raw.RawColumn.{RawColumn}
+use Rattle.bl_raw.specs.declared.raw.RawMps.{RawMps}
 use Rattle.bl_mps.specs.Lines.{Bytes}
 use Rattle.bl_mps.specs.First.{is_nonzero}
 use Rattle.bl_mps.specs.Parts.{field, under}

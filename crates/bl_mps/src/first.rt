@@ -1,7 +1,7 @@
 //! A whole text in the first form.
 ghost use Rattle.std.specs.Prelude.{◌≡◌, ◌≤◌, length, IfOk, IfSome, MatchOption, Some, None};
 ghost use Rattle.bl_text.specs.Lines.{lines_of};
-ghost use Rattle.bl_model.specs.Raw.{KeepsLimits};
+ghost use Rattle.bl_raw.specs.Raw.{IsRawModel};
 ghost use Rattle.bl_mps.specs.First.{model_in, first_in};
 ghost use Rattle.bl_mps.specs.FirstRead.{IsFirstRead};
 ghost use Rattle.bl_mps.specs.SectionViews.{sections_view};
@@ -22,7 +22,7 @@ const MOST_BYTES: usize = 16_777_216;
 /// The model of the sections.
 #[tactic(auto, unfolding(crate::specs::First::model_in))]
 fn read_sections(alloc: Global, sections: &Sections<'_>) -> Result<RawMps, Stop>
-    ensures limits { IfOk result KeepsLimits }
+    ensures limits { IfOk result IsRawModel }
     ensures exact { Gives (λ mps. mps) result (model_in (sections_view sections.now)) }
 {
     let rows = read_rows(alloc, sections.rows)?;
@@ -39,7 +39,7 @@ fn read_sections(alloc: Global, sections: &Sections<'_>) -> Result<RawMps, Stop>
 /// The model of the text.
 #[tactic(auto, unfolding(crate::specs::First::first_in))]
 fn read_model(alloc: Global, text: &[u8]) -> Result<RawMps, Stop>
-    ensures limits { IfOk result KeepsLimits }
+    ensures limits { IfOk result IsRawModel }
     ensures exact { Gives (λ mps. mps) result (first_in text.now) }
 {
     if text.len() > MOST_BYTES {
@@ -58,7 +58,7 @@ fn read_model(alloc: Global, text: &[u8]) -> Result<RawMps, Stop>
 pub fn read_first(alloc: Global, bytes: &[u8]) -> Result<Option<RawMps>, AllocError>
     ensures exact { IfOk result (IsFirstRead bytes.now) }
     ensures computed { IfOk result (λ read. read ≡ first_in bytes.now) }
-    ensures limits { IfOk result (λ read. IfSome read KeepsLimits) }
+    ensures limits { IfOk result (λ read. IfSome read IsRawModel) }
 {
     match read_model(alloc, bytes) {
         Ok(mps) => Ok(Some(mps)),

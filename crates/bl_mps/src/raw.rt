@@ -7,7 +7,7 @@ ghost use Rattle.bl_mps.specs.First.{number_at, row_of, row_at, is_nonzero, entr
 ghost use Rattle.bl_mps.specs.Entries.{AreEntries};
 ghost use Rattle.bl_mps.specs.Numbers.{AreWithin};
 ghost use Rattle.bl_mps.specs.RowViews.{rows_view, HasSenses};
-ghost use Rattle.bl_model.specs.Raw.{IsSide, IsRow, IsColumn};
+ghost use Rattle.bl_raw.specs.Raw.{IsSide, IsRow, IsColumn};
 
 use crate::columns::Columns;
 use crate::numbers::Numbers;

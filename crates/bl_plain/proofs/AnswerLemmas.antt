@@ -6,18 +6,18 @@ use Rattle.std.proofs.lemmas.Int.{ints}
 use Rattle.std.proofs.lemmas.List.{get_or_past}
 use Rattle.std.proofs.lemmas.List.Elements.{All-contains, All-append}
 use Rattle.std.specs.Option.{option_map}
-use Rattle.bl_terms.specs.Programs.{Program, In, columns, cost_at}
+use Rattle.bl_terms.specs.Programs.{Program, InBox, columns, cost_at}
 use Rattle.bl_terms.specs.Feasible.{BilevelFeasible, Optimal}
 use Rattle.bl_model.specs.View.{IsModel}
 use Rattle.bl_plain.specs.Walk.{Varies, Best, Improves, Among, IsAnswer, optimum_of}
 use Rattle.bl_plain.proofs.BestLemmas.{follower-below}
 
 -- the least numbers are a point of the box
-pub In-least : (p : Program) → IsModel p → In p p.lo
+pub In-least : (p : Program) → IsModel p → InBox p p.lo
 In-least p m = record { columns = refl; least = λ k below. omega (arith, ints); most = λ k below. m.sound.box.ordered k below }
 
 -- a point of the box varies it on all columns
-varies_from_In : (p : Program) (cs : List ℕ) (z : List ℤ) → All (λ c. c < columns p) cs → ((k : ℕ) → k < columns p → Contains cs k) → In p z → Varies p cs p.lo z
+varies_from_In : (p : Program) (cs : List ℕ) (z : List ℤ) → All (λ c. c < columns p) cs → ((k : ℕ) → k < columns p → Contains cs k) → InBox p z → Varies p cs p.lo z
 varies_from_In p cs z below all is = record {
   count = is.columns;
   others = λ k out. ⊎_elim

@@ -3,8 +3,8 @@ use Rattle.std.proofs.Common.{◌≡◌, ℕ, ◌<◌, List, [], ◌∷◌, ◌+
 use Rattle.std.specs.Prelude.{All, ℤ, pos, ◌≤ℤ◌, ◌<ℤ◌, ◌+ℤ◌, ◌⊎◌, Option, None, Some, IfSome, IsSomeAnd}
 use Rattle.std.proofs.lemmas.Int.{ints, by_lt_z}
 use Rattle.std.proofs.lemmas.List.Elements.{All-cons, All-append, Contains-get_or}
-use Rattle.bl_whole.specs.Sums.{entry}
-use Rattle.bl_terms.specs.Programs.{Program, In, columns, cost_at}
+use Rattle.bl_whole.specs.Sums.{component}
+use Rattle.bl_terms.specs.Programs.{Program, InBox, columns, cost_at}
 use Rattle.bl_model.specs.View.{IsModel}
 use Rattle.bl_plain.specs.Walk.{Varies, Best, Improves, Among, AnswersAt}
 use Rattle.bl_plain.proofs.WalkLemmas.{Varies-none, Varies-narrow, Varies-widen, Contains-first, below_or_here}
@@ -39,7 +39,7 @@ Improves-same p S T a b to from h = record {
 
 -- the points whose value of column c is below x
 abbrev pub Below : Program → ℕ → List ℕ → List ℤ → (List ℤ → Type 0) → ℤ → List ℤ → Type 0
-Below p c cs z T x z' = Varies p (c ∷ cs) z z' × T z' × (entry z' c <ℤ x)
+Below p c cs z T x z' = Varies p (c ∷ cs) z z' × T z' × (component z' c <ℤ x)
 
 -- new is the best of old, of the points below x, and perhaps of further ones
 pub record Seeks (p : Program) (c : ℕ) (cs : List ℕ) (z : List ℤ) (T : List ℤ → Type 0) (x : ℤ) (old new : Best) : Type 0 where
@@ -47,21 +47,21 @@ pub record Seeks (p : Program) (c : ℕ) (cs : List ℕ) (z : List ℤ) (T : Lis
   pub kept : IfSome old.value (λ before. IsSomeAnd new.value (λ now. now ≤ℤ before))
   pub bound : (z' : List ℤ) → Below p c cs z T x z' → IsSomeAnd new.value (λ now. now ≤ℤ cost_at p z')
 
-pub Seeks-start : (p : Program) (c : ℕ) (cs : List ℕ) (z : List ℤ) (T : List ℤ → Type 0) (a : Best) → Seeks p c cs z T (entry p.lo c) a a
+pub Seeks-start : (p : Program) (c : ℕ) (cs : List ℕ) (z : List ℤ) (T : List ℤ → Type 0) (a : Best) → Seeks p c cs z T (component p.lo c) a a
 Seeks-start p c cs z T a = record {
   source = inl refl;
   kept = kept_same a.value;
   bound = λ z' b. let low = b.0.least c (Contains-first c cs) in let less = b.2 in absurd (omega (arith, ints));
 }
 
-pub Seeks-end : (p : Program) (c : ℕ) (cs : List ℕ) (z : List ℤ) (T : List ℤ → Type 0) (x : ℤ) (a b : Best) → entry p.hi c <ℤ x → Seeks p c cs z T x a b → Improves p (Among p (c ∷ cs) z T) a b
+pub Seeks-end : (p : Program) (c : ℕ) (cs : List ℕ) (z : List ℤ) (T : List ℤ → Type 0) (x : ℤ) (a b : Best) → component p.hi c <ℤ x → Seeks p c cs z T x a b → Improves p (Among p (c ∷ cs) z T) a b
 Seeks-end p c cs z T x a b past h = record {
   source = h.source;
   kept = h.kept;
   bound = λ z' w. let high = w.0.most c (Contains-first c cs) in h.bound z' (w.0, w.1, omega (arith, ints));
 }
 
-pub Seeks-step : (p : Program) (c : ℕ) (cs : List ℕ) (z₀ z : List ℤ) (T : List ℤ → Type 0) (x : ℤ) (a b d : Best) → c < length z → entry p.lo c ≤ℤ x → x ≤ℤ entry p.hi c → Varies p (c ∷ cs) z₀ z → Seeks p c cs z₀ T x a b → Improves p (Among p cs (set z c x) T) b d → Seeks p c cs z₀ T (x +ℤ pos 1) a d
+pub Seeks-step : (p : Program) (c : ℕ) (cs : List ℕ) (z₀ z : List ℤ) (T : List ℤ → Type 0) (x : ℤ) (a b d : Best) → c < length z → component p.lo c ≤ℤ x → x ≤ℤ component p.hi c → Varies p (c ∷ cs) z₀ z → Seeks p c cs z₀ T x a b → Improves p (Among p cs (set z c x) T) b d → Seeks p c cs z₀ T (x +ℤ pos 1) a d
 Seeks-step p c cs z₀ z T x a b d below low high v old new = record {
   source = ⊎_elim
       (λ same. let P : Best → Type 0 = λ q. (q ≡ a) ⊎ (Among p (c ∷ cs) z₀ T q.point × (q.value ≡ Some (cost_at p q.point))) in subst P (sym same) old.source)
@@ -71,7 +71,7 @@ Seeks-step p c cs z₀ z T x a b d below low high v old new = record {
   bound = λ z' w. ⊎_elim
       (λ less. some_le b.value d.value (cost_at p z') (old.bound z' (w.0, w.1, less)) new.kept)
       (λ here. new.bound z' (Varies-narrow p c cs z₀ z z' x below v w.0 here, w.1))
-      (below_or_here (entry z' c) x w.2);
+      (below_or_here (component z' c) x w.2);
 }
 
 -- ---- one point
@@ -93,7 +93,7 @@ offer-dear p z least a dear = record {
     not_below (Some b) y h = by_lt_z y b (λ less. absurd (h less)) (λ ge. ge)
 
 -- a point that is taken
-pub offer-taken : (p : Program) (z : List ℤ) (least : ℤ) (a : Best) → In p z → Varies p [] z z → AnswersAt p least z → IfSome a.value (λ before. cost_at p z <ℤ before) → Improves p (Among p [] z (AnswersAt p least)) a (record { point = z; value = Some (cost_at p z) })
+pub offer-taken : (p : Program) (z : List ℤ) (least : ℤ) (a : Best) → InBox p z → Varies p [] z z → AnswersAt p least z → IfSome a.value (λ before. cost_at p z <ℤ before) → Improves p (Among p [] z (AnswersAt p least)) a (record { point = z; value = Some (cost_at p z) })
 offer-taken p z least a is v answers less = record {
   source = inr ((v, answers), refl);
   kept = lower a.value less;

@@ -4,7 +4,7 @@ use Rattle.std.specs.Prelude.{ℤ, pos, None, Some}
 use Rattle.std.proofs.lemmas.Bool.{cases_lt}
 use Rattle.std.proofs.lemmas.Int.{ints}
 use Rattle.std.proofs.lemmas.List.{get_or_past}
-use Rattle.bl_terms.specs.Programs.{Program, In, Lower, Rows, SameLead, columns}
+use Rattle.bl_terms.specs.Programs.{Program, InBox, MeetsLowerRows, MeetsRows, SameLead, columns}
 use Rattle.bl_terms.specs.Feasible.{BilevelFeasible}
 use Rattle.bl_model.specs.View.{IsModel}
 use Rattle.bl_plain.specs.Walk.{Varies, Best, Improves, Among, AnswersAt, IsLeastCost}
@@ -16,7 +16,7 @@ lead_from_varies : (p : Program) (z z' w : List ℤ) → Varies p p.follower z z
 lead_from_varies p z z' w v u = record { agree = λ k leader. v.others k leader.leads ∙ sym (u.others k leader.leads) }
 
 -- and the other way round, in the box
-varies_from_lead : (p : Program) (z z' w : List ℤ) → IsModel p → In p z → Varies p p.follower z z' → In p w → SameLead p z' w → Varies p p.follower z w
+varies_from_lead : (p : Program) (z z' w : List ℤ) → IsModel p → InBox p z → Varies p p.follower z z' → InBox p w → SameLead p z' w → Varies p p.follower z w
 varies_from_lead p z z' w m is v in' lead = record {
   count = in'.columns ∙ sym is.columns;
   others = λ k out. ⊎_elim
@@ -27,11 +27,11 @@ varies_from_lead p z z' w m is v in' lead = record {
   most = λ k has. in'.most k (m.sound.follower_below k has);
 }
 
-rows_lower : (p : Program) (z : List ℤ) → Rows p z → Lower p z
+rows_lower : (p : Program) (z : List ℤ) → MeetsRows p z → MeetsLowerRows p z
 rows_lower p z h = record { each = λ i below lower. h.each i below }
 
 -- a point that meets all rows at the follower's least cost is bilevel feasible
-feasible_from_answer : (p : Program) (z z' : List ℤ) (least : ℤ) → IsModel p → In p z → IsLeastCost p p.follower z (Some least) → Varies p p.follower z z' → AnswersAt p least z' → BilevelFeasible p z'
+feasible_from_answer : (p : Program) (z z' : List ℤ) (least : ℤ) → IsModel p → InBox p z → IsLeastCost p p.follower z (Some least) → Varies p p.follower z z' → AnswersAt p least z' → BilevelFeasible p z'
 feasible_from_answer p z z' least m is h v a = record {
   inside = In-varies p p.follower z z' is v;
   rows = a.rows;
@@ -39,7 +39,7 @@ feasible_from_answer p z z' least m is h v a = record {
 }
 
 -- and the other way round
-answer_from_feasible : (p : Program) (z z' : List ℤ) (least : ℤ) → In p z → IsLeastCost p p.follower z (Some least) → Varies p p.follower z z' → BilevelFeasible p z' → AnswersAt p least z'
+answer_from_feasible : (p : Program) (z z' : List ℤ) (least : ℤ) → InBox p z → IsLeastCost p p.follower z (Some least) → Varies p p.follower z z' → BilevelFeasible p z' → AnswersAt p least z'
 answer_from_feasible p z z' least is h v f =
     let other = h.reached in
     let up = h.bound z' v (rows_lower p z' f.rows) in
@@ -48,7 +48,7 @@ answer_from_feasible p z z' least is h v f =
     record { rows = f.rows; cost = omega (arith, ints) }
 
 -- the walk of the follower's columns at his least cost finds the best bilevel feasible point
-pub follower_found : (p : Program) (z z₁ : List ℤ) (least : ℤ) (a b : Best) → IsModel p → In p z → IsLeastCost p p.follower z (Some least) → Varies p p.follower z z₁ → Improves p (Among p p.follower z₁ (AnswersAt p least)) a b → Improves p (Among p p.follower z (BilevelFeasible p)) a b
+pub follower_found : (p : Program) (z z₁ : List ℤ) (least : ℤ) (a b : Best) → IsModel p → InBox p z → IsLeastCost p p.follower z (Some least) → Varies p p.follower z z₁ → Improves p (Among p p.follower z₁ (AnswersAt p least)) a b → Improves p (Among p p.follower z (BilevelFeasible p)) a b
 follower_found p z z₁ least a b m is h v =
     Improves-same p (Among p p.follower z₁ (AnswersAt p least)) (Among p p.follower z (BilevelFeasible p)) a b
     (λ z' w. let u = Varies-trans p p.follower z z₁ z' v w.0 in (u, feasible_from_answer p z z' least m is h u w.1))

@@ -3,21 +3,21 @@ use Rattle.std.specs.Prelude.{◌≡◌, ◌⊎◌, ℕ, List, length, ℤ, ◌�
 use Rattle.std.specs.Int.{int_min}
 use Rattle.std.specs.Option.{option_map}
 use Rattle.std.specs.Coded.{Coded, code_by, coded×, coded_list, coded_ℤ, coded_option}
-use Rattle.bl_whole.specs.Sums.{entry}
-use Rattle.bl_terms.specs.Programs.{Program, Rows, Lower, cost_at, follower_at}
+use Rattle.bl_whole.specs.Sums.{component}
+use Rattle.bl_terms.specs.Programs.{Program, MeetsRows, MeetsLowerRows, cost_at, follower_at}
 use Rattle.bl_terms.specs.Feasible.{Optimal, Infeasible}
 
 -- z' differs from z on these columns alone, and there it lies in the ranges
 pub record Varies (p : Program) (columns : List ℕ) (z z' : List ℤ) : Type 0 where
   pub count : length z' ≡ length z
-  pub others : (k : ℕ) → ¬ Contains columns k → entry z' k ≡ entry z k
-  pub least : (k : ℕ) → Contains columns k → entry p.lo k ≤ℤ entry z' k
-  pub most : (k : ℕ) → Contains columns k → entry z' k ≤ℤ entry p.hi k
+  pub others : (k : ℕ) → ¬ Contains columns k → component z' k ≡ component z k
+  pub least : (k : ℕ) → Contains columns k → component p.lo k ≤ℤ component z' k
+  pub most : (k : ℕ) → Contains columns k → component z' k ≤ℤ component p.hi k
 
 -- r is the least follower's cost among the points that vary z on these columns and meet the follower's rows, and None where there is none
 pub record IsLeastCost (p : Program) (columns : List ℕ) (z : List ℤ) (r : Option ℤ) : Type 0 where
-  pub reached : IfSome r (λ least. (z' : List ℤ) × Varies p columns z z' × Lower p z' × (follower_at p z' ≡ least))
-  pub bound : (z' : List ℤ) → Varies p columns z z' → Lower p z' → IsSomeAnd r (λ least. least ≤ℤ follower_at p z')
+  pub reached : IfSome r (λ least. (z' : List ℤ) × Varies p columns z z' × MeetsLowerRows p z' × (follower_at p z' ≡ least))
+  pub bound : (z' : List ℤ) → Varies p columns z z' → MeetsLowerRows p z' → IsSomeAnd r (λ least. least ≤ℤ follower_at p z')
 
 -- the lesser of two costs, either of which may be missing
 abbrev pub lesser : Option ℤ → Option ℤ → Option ℤ
@@ -46,7 +46,7 @@ Among p columns z T z' = Varies p columns z z' × T z'
 
 -- z meets all rows and costs the follower this much
 pub record AnswersAt (p : Program) (least : ℤ) (z : List ℤ) : Type 0 where
-  pub rows : Rows p z
+  pub rows : MeetsRows p z
   pub cost : follower_at p z ≡ least
 
 -- a point with its cost to the leader

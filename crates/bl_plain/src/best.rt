@@ -1,7 +1,7 @@
 //! The best point that a walk has seen.
 
 ghost use Rattle.std.specs.Prelude.{◌≡◌, ◌↔◌, [], ◌<ℤ◌, length, IsTrue, IfSome};
-ghost use Rattle.bl_terms.specs.Programs.{In, columns as column_count};
+ghost use Rattle.bl_terms.specs.Programs.{InBox, columns as column_count};
 ghost use Rattle.bl_plain.specs.Walk.{Among, AnswersAt, Improves};
 
 use bl_model::Bilevel;
@@ -61,7 +61,7 @@ impl Best {
 /// Takes the point where it meets all rows, costs the follower this much, and costs the leader less
 /// than the best so far.
 pub(crate) fn offer(model: &Bilevel, z: &[i64], least: i64, best: &mut Best)
-    requires point { In model.now z.now }
+    requires point { InBox model.now z.now }
     requires room { length best.old.point ≡ column_count model.now }
     ensures best { Improves model.now (Among model.now [] z.now (AnswersAt model.now least)) best.old best.new }
     ensures room { length best.new.point ≡ column_count model.now }

@@ -1,7 +1,7 @@
 //! The follower's least cost, by walking every point of his columns.
 
 ghost use Rattle.std.specs.Prelude.{◌≡◌, ◌<◌, ◌∷◌, All};
-ghost use Rattle.bl_terms.specs.Programs.{In, columns as column_count};
+ghost use Rattle.bl_terms.specs.Programs.{InBox, columns as column_count};
 ghost use Rattle.bl_plain.specs.Walk.{Varies, IsLeastCost, lesser};
 
 use bl_model::Bilevel;
@@ -10,7 +10,7 @@ use bl_model::Bilevel;
 /// follower's rows. It takes no memory.
 #[cycle(least)]
 pub(crate) fn least_cost(model: &Bilevel, z: &mut [i64], columns: &[u32]) -> Option<i64>
-    requires point { In model.now z.old }
+    requires point { InBox model.now z.old }
     requires columns { All (λ c. c < column_count model.now) columns.now }
     ensures least { IsLeastCost model.now columns.now z.old result }
     ensures point { Varies model.now columns.now z.old z.new }
@@ -25,7 +25,7 @@ pub(crate) fn least_cost(model: &Bilevel, z: &mut [i64], columns: &[u32]) -> Opt
 // The same of one column and further ones.
 #[cycle(least)]
 fn least_over(model: &Bilevel, z: &mut [i64], column: usize, rest: &[u32]) -> Option<i64>
-    requires point { In model.now z.old }
+    requires point { InBox model.now z.old }
     requires column { column < column_count model.now }
     requires rest { All (λ c. c < column_count model.now) rest.now }
     ensures least { IsLeastCost model.now (column ∷ rest.now) z.old result }

@@ -1,7 +1,7 @@
 //! The best bilevel feasible point, by walking every point of the box.
 
 ghost use Rattle.std.specs.Prelude.{◌≡◌, ℕ, ◌<◌, ◌∷◌, ◌++◌, length, All, Contains, IfOk};
-ghost use Rattle.bl_terms.specs.Programs.{In, columns as column_count};
+ghost use Rattle.bl_terms.specs.Programs.{InBox, columns as column_count};
 ghost use Rattle.bl_terms.specs.Feasible.{BilevelFeasible};
 ghost use Rattle.bl_plain.specs.Walk.{Varies, Among, AnswersAt, Improves, IsAnswer};
 
@@ -14,7 +14,7 @@ use std::alloc::{AllocError, Global};
 // this much.
 #[cycle(responses)]
 fn try_responses(model: &Bilevel, z: &mut [i64], columns: &[u32], least: i64, best: &mut Best)
-    requires point { In model.now z.old }
+    requires point { InBox model.now z.old }
     requires columns { All (λ c. c < column_count model.now) columns.now }
     requires room { length best.old.point ≡ column_count model.now }
     ensures best { Improves model.now (Among model.now columns.now z.old (AnswersAt model.now least)) best.old best.new }
@@ -37,7 +37,7 @@ fn try_values(
     least: i64,
     best: &mut Best,
 )
-    requires point { In model.now z.old }
+    requires point { InBox model.now z.old }
     requires column { column < column_count model.now }
     requires rest { All (λ c. c < column_count model.now) rest.now }
     requires room { length best.old.point ≡ column_count model.now }
@@ -55,7 +55,7 @@ fn try_values(
 // those of the follower.
 #[cycle(leaders)]
 fn try_leaders(model: &Bilevel, z: &mut [i64], columns: &[u32], best: &mut Best)
-    requires point { In model.now z.old }
+    requires point { InBox model.now z.old }
     requires columns { All (λ c. c < column_count model.now) columns.now }
     requires room { length best.old.point ≡ column_count model.now }
     ensures best { Improves model.now (Among model.now (columns.now ++ model.now.follower) z.old (BilevelFeasible model.now)) best.old best.new }
@@ -71,7 +71,7 @@ fn try_leaders(model: &Bilevel, z: &mut [i64], columns: &[u32], best: &mut Best)
 // The same of one column and further ones.
 #[cycle(leaders)]
 fn try_choices(model: &Bilevel, z: &mut [i64], column: usize, rest: &[u32], best: &mut Best)
-    requires point { In model.now z.old }
+    requires point { InBox model.now z.old }
     requires column { column < column_count model.now }
     requires rest { All (λ c. c < column_count model.now) rest.now }
     requires room { length best.old.point ≡ column_count model.now }
@@ -88,7 +88,7 @@ fn try_choices(model: &Bilevel, z: &mut [i64], column: usize, rest: &[u32], best
 // The best of the bilevel feasible points with the leader's values of `z`: two walks of the
 // follower's columns, one for his least cost and one for the points of that cost that meet all rows.
 fn try_follower(model: &Bilevel, z: &mut [i64], best: &mut Best)
-    requires point { In model.now z.old }
+    requires point { InBox model.now z.old }
     requires room { length best.old.point ≡ column_count model.now }
     ensures best { Improves model.now (Among model.now model.now.follower z.old (BilevelFeasible model.now)) best.old best.new }
     ensures point { Varies model.now model.now.follower z.old z.new }

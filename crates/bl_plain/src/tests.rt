@@ -1,7 +1,7 @@
 //! Small programs and their answers, worked out by hand.
 
 ghost use Rattle.std.specs.Prelude.{◌≡◌, ◌≤◌, [], length, vec_len, All, IfOk};
-ghost use Rattle.bl_model.specs.Raw.{FitsModel, IsColumn, IsRow, IsSide};
+ghost use Rattle.bl_raw.specs.Raw.{FitsModel, IsColumn, IsRow, IsSide};
 
 use super::*;
 use bl_model::{Listed, Name, RawAux, RawColumn, RawMps, RawRow, build};

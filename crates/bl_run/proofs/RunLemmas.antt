@@ -5,8 +5,8 @@ use Rattle.std.specs.declared.result.Result.{Result}
 use Rattle.bl_outer.specs.Count.{HasCause}
 use Rattle.bl_outer.specs.Files.{Files, Holds, IsAbsent, IfTold, Told}
 use Rattle.bl_outer.specs.Sink.{Adds, AddsPrefix}
-use Rattle.bl_model.specs.declared.raw.RawMps.{RawMps}
-use Rattle.bl_model.specs.declared.raw.RawAux.{RawAux}
+use Rattle.bl_raw.specs.declared.raw.RawMps.{RawMps}
+use Rattle.bl_raw.specs.declared.raw.RawAux.{RawAux}
 use Rattle.bl_model.specs.Build.{program_of}
 use Rattle.bl_mps.specs.First.{first_in}
 use Rattle.bl_terms.specs.Programs.{root}

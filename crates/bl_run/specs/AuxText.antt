@@ -3,8 +3,8 @@ use Rattle.std.specs.Prelude.{◌≡◌, ℕ, ◌<◌, List, ◌++◌, length, m
 use Rattle.std.specs.Int.{w64}
 use Rattle.std.specs.Fmt.{signed_decimal}
 use Rattle.std.specs.List.{flat_map}
-use Rattle.bl_model.specs.declared.raw.RawAux.{RawAux}
-use Rattle.bl_model.specs.Raw.{IsSmall, AreDistinct}
+use Rattle.bl_raw.specs.declared.raw.RawAux.{RawAux}
+use Rattle.bl_raw.specs.Raw.{IsSmall, AreDistinct}
 
 -- a number and the end of its line
 abbrev pub number_line : ℤ → List ℕ

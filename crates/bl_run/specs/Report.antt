@@ -1,7 +1,7 @@
 -- What the program prints.
 use Rattle.std.specs.Prelude.{ℕ, List, [], ◌∷◌, ◌++◌, ℤ, codes}
 use Rattle.std.specs.Fmt.{signed_decimal}
-use Rattle.bl_model.specs.declared.raw.RawColumn.{RawColumn}
+use Rattle.bl_raw.specs.declared.raw.RawColumn.{RawColumn}
 
 -- `column NAME VALUE`
 abbrev pub column_line : RawColumn → ℤ → List ℕ

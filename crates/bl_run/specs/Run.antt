@@ -3,8 +3,8 @@ use Rattle.std.specs.Prelude.{◌≡◌, ◌≢◌, ◌⊎◌, ℕ, ◌≤◌, �
 use Rattle.bl_outer.specs.Count.{Rose}
 use Rattle.bl_outer.specs.Files.{Files, IfTold, Told}
 use Rattle.bl_outer.specs.Sink.{Adds, AddsPrefix}
-use Rattle.bl_model.specs.declared.raw.RawMps.{RawMps}
-use Rattle.bl_model.specs.declared.raw.RawAux.{RawAux}
+use Rattle.bl_raw.specs.declared.raw.RawMps.{RawMps}
+use Rattle.bl_raw.specs.declared.raw.RawAux.{RawAux}
 use Rattle.bl_run.specs.Words.{AreSolveWords}
 use Rattle.bl_run.specs.Solve.{Reads, IsWalkable, IsEither, IsNotYet, IsMissing, PrintsPart, SolveFails}
 use Rattle.bl_run.specs.declared.status.Failure.{Failure}

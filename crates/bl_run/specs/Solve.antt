@@ -2,10 +2,10 @@
 use Rattle.std.specs.Prelude.{◌≡◌, ◌⊎◌, ℕ, ◌<◌, ◌≤◌, List, length, ℤ, ◌*ℤ◌, Option, Some, None, ⊤}
 use Rattle.bl_outer.specs.Files.{Files, Holds, IsAbsent, IfTold, Told}
 use Rattle.bl_outer.specs.Sink.{Adds, AddsPrefix}
-use Rattle.bl_model.specs.declared.raw.RawColumn.{RawColumn}
-use Rattle.bl_model.specs.declared.raw.RawMps.{RawMps}
-use Rattle.bl_model.specs.declared.raw.RawAux.{RawAux}
-use Rattle.bl_model.specs.Raw.{FitsModel}
+use Rattle.bl_raw.specs.declared.raw.RawColumn.{RawColumn}
+use Rattle.bl_raw.specs.declared.raw.RawMps.{RawMps}
+use Rattle.bl_raw.specs.declared.raw.RawAux.{RawAux}
+use Rattle.bl_raw.specs.Raw.{FitsModel}
 use Rattle.bl_model.specs.Build.{program_of}
 use Rattle.bl_mps.specs.First.{first_in}
 use Rattle.bl_mps.specs.FirstRead.{IsFirstRead}

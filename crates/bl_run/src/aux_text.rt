@@ -5,10 +5,10 @@
 //! line is the key, one space, the number in plain decimal and a line feed.
 
 ghost use Rattle.std.specs.Prelude.{◌≡◌, ◌≢◌, ◌↔◌, ◌<◌, ◌≤◌, ℕ, ℤ, List, length, map, pos, All, IfOk, IfSome, IfNone, IsTrue, MatchOption, codes};
-ghost use Rattle.bl_model.specs.Raw.{FitsModel, IsSense, AreDistinct};
+ghost use Rattle.bl_raw.specs.Raw.{FitsModel, IsSense, AreDistinct};
 ghost use Rattle.bl_run.specs.AuxText.{number_line, aux_line, aux_lines, place_lines, count_lines, aux_text, IsFound, IsMissing, IsNumber, AreNumbers, ArePlaces, AreCosts, AreCounts};
 
-use bl_list::Listed;
+use bl_raw::Listed;
 use bl_model::RawAux;
 use bl_text::{plain_number, split_line};
 use std::alloc::{AllocError, Global};

@@ -3,10 +3,10 @@
 ghost use Rattle.std.specs.Prelude.{◌≡◌, ◌↔◌, ◌<◌, ◌≤◌, ◌+ℤ◌, ◌-ℤ◌, ◌*ℤ◌, ◌≤ℤ◌, pos, length, unsigned_abs, vec_len, IfOk, IfErr, MatchResult, IsTrue};
 ghost use Rattle.bl_whole.specs.Within.{IsWithin};
 ghost use Rattle.bl_outer.specs.Files.{Holds, IfTold};
-ghost use Rattle.bl_terms.specs.Programs.{root, In, follower_at, columns as column_count};
+ghost use Rattle.bl_terms.specs.Programs.{root, InBox, follower_at, columns as column_count};
 ghost use Rattle.bl_plain.specs.Walk.{IsAnswer};
 ghost use Rattle.bl_terms.specs.Trees.{point_count};
-ghost use Rattle.bl_model.specs.Raw.{KeepsLimits, FitsModel};
+ghost use Rattle.bl_raw.specs.Raw.{IsRawModel, FitsModel};
 ghost use Rattle.bl_model.specs.Build.{program_of};
 ghost use Rattle.bl_run.specs.Endings.{CountsReadFault, CountsMissing, CountsWriteFault, IsOfReading};
 ghost use Rattle.bl_run.specs.Solve.{MpsReads, AuxReads, FileFails, MpsFails, AuxFails, ModelFails, SolveFails, LeavesOut, IsWalkable, Says, Prints};
@@ -69,7 +69,7 @@ fn read_mps<'a, F: Shelf>(
     files: &mut F,
     name: &'a str,
 ) -> Result<RawMps, Failure<'a>>
-    ensures limits { IfOk result KeepsLimits }
+    ensures limits { IfOk result IsRawModel }
     ensures read { IfOk result (λ mps. IfTold (F.contents files.old) (MpsReads name.now mps)) }
     ensures failed { IfErr result (λ failure. IfTold (F.contents files.old) (MpsFails name.now failure)) }
     ensures named { IfErr result (IsOfReading name.now) }
@@ -95,7 +95,7 @@ fn read_aux<'a, F: Shelf>(
     name: &'a str,
     mps: &RawMps,
 ) -> Result<RawAux, Failure<'a>>
-    requires { KeepsLimits mps.now }
+    requires { IsRawModel mps.now }
     ensures fits { IfOk result (FitsModel (length mps.now.columns) (length mps.now.rows)) }
     ensures read { IfOk result (λ aux. IfTold (F.contents files.old) (AuxReads name.now mps.now aux)) }
     ensures failed { IfErr result (λ failure. IfTold (F.contents files.old) (AuxFails name.now mps.now failure)) }
@@ -152,7 +152,7 @@ fn solve_model<'a>(
     mps: &RawMps,
     aux: &RawAux,
 ) -> Result<Report, Failure<'a>>
-    requires mps { KeepsLimits mps.now }
+    requires mps { IsRawModel mps.now }
     requires aux { FitsModel (length mps.now.columns) (length mps.now.rows) aux.now }
     ensures walkable { IfOk result (λ _. IsWalkable mps.now aux.now) }
     ensures report { IfOk result (λ report. Says mps.now.columns (program_of mps.now aux.now) report.answer report.text.items) }
@@ -194,7 +194,7 @@ fn is_walkable(model: &Bilevel) -> bool
 
 // The follower's value of a point of the box, in the sense of the auxiliary text.
 fn follower_value(model: &Bilevel, point: &[i64]) -> i64
-    requires { In model.now point.now }
+    requires { InBox model.now point.now }
     ensures { result ≡ follower_at model.now point.now *ℤ model.now.sense }
 {
     model.follower_of(point) * model.sense()

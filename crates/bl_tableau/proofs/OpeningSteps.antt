@@ -8,7 +8,7 @@ use Rattle.std.proofs.lemmas.List.{get_or_read}
 use Rattle.std.proofs.lemmas.Bool.Decides.{nat_tests}
 use Rattle.std.proofs.lemmas.Grind.{common_steps}
 use Rattle.std.proofs.lemmas.Bool.{cases_eq}
-use Rattle.bl_whole.specs.Sums.{entry, dot}
+use Rattle.bl_whole.specs.Sums.{component, dot}
 use Rattle.bl_whole.specs.Within.{IsWithin, AreWithin, PartialDotsFit}
 use Rattle.bl_whole.proofs.SumLemmas.{sum_below-agree}
 use Rattle.bl_whole.proofs.WithinLemmas.{within_more, within_dot, within_entry, within_product, within_negation, dots_fit, fits_from_within, within_difference}
@@ -67,7 +67,7 @@ appends_more a b c m n f g h k i l = k.before i (omega (arith, h.size))
 -- the products with the starts are the value where every column is at its start
 pub dot_starts : (q : Problem) (cs starts : List ℤ) → AreStarts q starts → length cs ≡ columns q → dot cs starts ≡ at_start q cs
 dot_starts q cs starts h size =
-    sum_below-agree (length cs) (λ j. entry cs j *ℤ entry starts j) (λ j. entry cs j *ℤ start_at q j) (λ j l. ap (λ z. entry cs j *ℤ z) (h.each j (omega arith)))
+    sum_below-agree (length cs) (λ j. component cs j *ℤ component starts j) (λ j. component cs j *ℤ start_at q j) (λ j l. ap (λ z. component cs j *ℤ z) (h.each j (omega arith)))
 
 small_product : (n : ℕ) → n ≤ 120 → n * (2 ^ 36 * 10000000) < 2 ^ 127
 small_product n h = omega arith
@@ -130,22 +130,22 @@ number_of_entry q i j h = chosen (nat_lt j (columns q)) (opening_entry q i j) (o
 number_of_right : (q : Problem) (i : ℕ) → opening_number q i (columns q) ≡ opening_right q i
 number_of_right q i = other (nat_lt (columns q) (columns q)) (opening_entry q i (columns q)) (opening_right q i) (not_less (columns q) (columns q) (omega arith))
 
-pub entry_of_row : (q : Problem) (i j : ℕ) → i < length q.rows → j < columns q → opening_number q i j ≡ entry (linear_at q.rows i).coef j *ℤ sign_at q j
+pub entry_of_row : (q : Problem) (i j : ℕ) → i < length q.rows → j < columns q → opening_number q i j ≡ component (linear_at q.rows i).coef j *ℤ sign_at q j
 entry_of_row q i j hi hj = number_of_entry q i j hj ∙ chosen (nat_lt i (length q.rows)) _ _ (less i (length q.rows) hi)
 
-pub right_of_row : (q : Problem) (i : ℕ) → i < length q.rows → opening_number q i (columns q) ≡ (linear_at q.rows i).right -ℤ at_start q (linear_at q.rows i).coef
+pub right_of_row : (q : Problem) (i : ℕ) → i < length q.rows → opening_number q i (columns q) ≡ (linear_at q.rows i).rhs -ℤ at_start q (linear_at q.rows i).coef
 right_of_row q i hi = number_of_right q i ∙ chosen (nat_lt i (length q.rows)) _ _ (less i (length q.rows) hi)
 
 pub entry_of_range : (q : Problem) (k j : ℕ) → k < columns q → j < columns q → opening_number q (length q.rows + k) j ≡ cond (length q.rows + k == length q.rows + j) (pos 1) (pos 0)
 entry_of_range q k j hk hj =
     number_of_entry q (length q.rows + k) j hj ∙ other (nat_lt (length q.rows + k) (length q.rows)) _ _ (not_less (length q.rows + k) (length q.rows) (omega arith)) ∙ chosen (nat_lt (length q.rows + k) (cost_row q)) _ _ (less (length q.rows + k) (cost_row q) (omega arith))
 
-pub right_of_range : (q : Problem) (k : ℕ) → k < columns q → opening_number q (length q.rows + k) (columns q) ≡ entry q.area.hi k -ℤ entry q.area.lo k
+pub right_of_range : (q : Problem) (k : ℕ) → k < columns q → opening_number q (length q.rows + k) (columns q) ≡ component q.area.hi k -ℤ component q.area.lo k
 right_of_range q k hk =
     let same : (length q.rows + k) - length q.rows ≡ k = omega arith in
-    number_of_right q (length q.rows + k) ∙ other (nat_lt (length q.rows + k) (length q.rows)) _ _ (not_less (length q.rows + k) (length q.rows) (omega arith)) ∙ chosen (nat_lt (length q.rows + k) (cost_row q)) _ _ (less (length q.rows + k) (cost_row q) (omega arith)) ∙ ap (λ n. entry q.area.hi n -ℤ entry q.area.lo n) same
+    number_of_right q (length q.rows + k) ∙ other (nat_lt (length q.rows + k) (length q.rows)) _ _ (not_less (length q.rows + k) (length q.rows) (omega arith)) ∙ chosen (nat_lt (length q.rows + k) (cost_row q)) _ _ (less (length q.rows + k) (cost_row q) (omega arith)) ∙ ap (λ n. component q.area.hi n -ℤ component q.area.lo n) same
 
-pub entry_of_cost : (q : Problem) (j : ℕ) → j < columns q → opening_number q (cost_row q) j ≡ neg_ℤ (pos (unsigned_abs (entry q.cost j)))
+pub entry_of_cost : (q : Problem) (j : ℕ) → j < columns q → opening_number q (cost_row q) j ≡ neg_ℤ (pos (unsigned_abs (component q.cost j)))
 entry_of_cost q j hj =
     number_of_entry q (cost_row q) j hj ∙ other (nat_lt (cost_row q) (length q.rows)) _ _ (not_less (cost_row q) (length q.rows) (omega arith)) ∙ other (nat_lt (cost_row q) (cost_row q)) _ _ (not_less (cost_row q) (cost_row q) (omega arith))
 
@@ -167,22 +167,22 @@ sign_within false = record { magnitude = omega arith }
 
 -- the coefficient as the code turns it round
 pub row_number : (q : Problem) (i j : ℕ) (coef cost : List ℤ) (s : ℤ) (w : Fraction) → Fits q → i < length q.rows → j < columns q → coef ≡ (linear_at q.rows i).coef → cost ≡ q.cost
-    → w ≡ record { num = to_z w64 (of_z w64 s); den = 1 } → s ≡ to_z w64 (of_z w64 (entry coef j)) *ℤ cond (int_lt (to_z w64 (of_z w64 (entry cost j))) (pos 0)) (negsuc 0) (pos 1)
+    → w ≡ record { num = to_z w64 (of_z w64 s); den = 1 } → s ≡ to_z w64 (of_z w64 (component coef j)) *ℤ cond (int_lt (to_z w64 (of_z w64 (component cost j))) (pos 0)) (negsuc 0) (pos 1)
     → w ≡ whole_fraction (opening_number q i j)
 row_number q i j coef cost s w fits hi hj ec ed ew es =
-    let a = entry (linear_at q.rows i).coef j in
+    let a = component (linear_at q.rows i).coef j in
     let size : IsWithin (2 ^ 36) a = within_entry (fits.coefs i hi) j in
-    let first : to_z w64 (of_z w64 (entry coef j)) ≡ a = ap (λ xs. to_z w64 (of_z w64 (entry xs j))) ec ∙ read64 (2 ^ 36) a size (lit< tt) in
-    let second : to_z w64 (of_z w64 (entry cost j)) ≡ entry q.cost j = ap (λ xs. to_z w64 (of_z w64 (entry xs j))) ed ∙ read64 10000000 (entry q.cost j) (within_entry fits.costs j) (lit< tt) in
-    let value : s ≡ a *ℤ sign_at q j = es ∙ ap (λ z. z *ℤ cond (int_lt (to_z w64 (of_z w64 (entry cost j))) (pos 0)) (negsuc 0) (pos 1)) first ∙ ap (λ z. a *ℤ cond (int_lt z (pos 0)) (negsuc 0) (pos 1)) second in
+    let first : to_z w64 (of_z w64 (component coef j)) ≡ a = ap (λ xs. to_z w64 (of_z w64 (component xs j))) ec ∙ read64 (2 ^ 36) a size (lit< tt) in
+    let second : to_z w64 (of_z w64 (component cost j)) ≡ component q.cost j = ap (λ xs. to_z w64 (of_z w64 (component xs j))) ed ∙ read64 10000000 (component q.cost j) (within_entry fits.costs j) (lit< tt) in
+    let value : s ≡ a *ℤ sign_at q j = es ∙ ap (λ z. z *ℤ cond (int_lt (to_z w64 (of_z w64 (component cost j))) (pos 0)) (negsuc 0) (pos 1)) first ∙ ap (λ z. a *ℤ cond (int_lt z (pos 0)) (negsuc 0) (pos 1)) second in
     whole_number s (a *ℤ sign_at q j) (2 ^ 36 * 1) w ew value (within_product size (sign_within (descends q j))) (lit< tt) ∙ ap whole_fraction (sym (entry_of_row q i j hi hj))
 
-pub slack_value : (q : Problem) (i : ℕ) (coef starts : List ℤ) (r f d s : ℤ) → Fits q → i < length q.rows → AreStarts q starts → coef ≡ (linear_at q.rows i).coef → r ≡ (linear_at q.rows i).right
-    → f ≡ to_z w64 (of_z w64 r) → d ≡ dot coef starts → (f ≡ (linear_at q.rows i).right) × (d ≡ at_start q (linear_at q.rows i).coef) × (unsigned_abs f ≤ 2 ^ 62) × (unsigned_abs d ≤ 2 ^ 70)
+pub slack_value : (q : Problem) (i : ℕ) (coef starts : List ℤ) (r f d s : ℤ) → Fits q → i < length q.rows → AreStarts q starts → coef ≡ (linear_at q.rows i).coef → r ≡ (linear_at q.rows i).rhs
+    → f ≡ to_z w64 (of_z w64 r) → d ≡ dot coef starts → (f ≡ (linear_at q.rows i).rhs) × (d ≡ at_start q (linear_at q.rows i).coef) × (unsigned_abs f ≤ 2 ^ 62) × (unsigned_abs d ≤ 2 ^ 70)
 slack_value q i coef starts r f d s fits hi starts_are ec er ef ed =
     let cs = (linear_at q.rows i).coef in
-    let b = (linear_at q.rows i).right in
-    let size = fits.rights i hi in
+    let b = (linear_at q.rows i).rhs in
+    let size = fits.rhs i hi in
     let columns_of = fits.shape.row_columns i hi in
     let right : f ≡ b = ef ∙ ap (λ z. to_z w64 (of_z w64 z)) er ∙ read64 (2 ^ 62) b size (lit< tt) in
     let sum : d ≡ dot cs starts = ed ∙ ap (λ xs. dot xs starts) ec in
@@ -215,24 +215,24 @@ range_number q k j s w hk hj ew es =
     whole_number s _ 1 w ew (es ∙ value) (flag_within (length q.rows + k == length q.rows + j)) (lit< tt) ∙ ap whole_fraction (sym (entry_of_range q k j hk hj))
 
 pub range_right : (q : Problem) (k : ℕ) (hi lo : List ℤ) (s : ℤ) (w : Fraction) → Fits q → k < columns q → hi ≡ q.area.hi → lo ≡ q.area.lo → w ≡ record { num = to_z w64 (of_z w64 s); den = 1 }
-    → s ≡ to_z w64 (of_z w64 (entry hi k)) -ℤ to_z w64 (of_z w64 (entry lo k)) → w ≡ whole_fraction (opening_number q (length q.rows + k) (columns q))
+    → s ≡ to_z w64 (of_z w64 (component hi k)) -ℤ to_z w64 (of_z w64 (component lo k)) → w ≡ whole_fraction (opening_number q (length q.rows + k) (columns q))
 range_right q k hi lo s w fits hk eh el ew es =
-    let upper = within_entry fits.his k in
-    let lower = within_entry fits.los k in
-    let first : to_z w64 (of_z w64 (entry hi k)) ≡ entry q.area.hi k = ap (λ xs. to_z w64 (of_z w64 (entry xs k))) eh ∙ read64 10000000 (entry q.area.hi k) upper (lit< tt) in
-    let second : to_z w64 (of_z w64 (entry lo k)) ≡ entry q.area.lo k = ap (λ xs. to_z w64 (of_z w64 (entry xs k))) el ∙ read64 10000000 (entry q.area.lo k) lower (lit< tt) in
-    let value : s ≡ entry q.area.hi k -ℤ entry q.area.lo k = es ∙ ap (λ z. z -ℤ to_z w64 (of_z w64 (entry lo k))) first ∙ ap (λ z. entry q.area.hi k -ℤ z) second in
+    let upper = within_entry fits.upper_bounds k in
+    let lower = within_entry fits.lower_bounds k in
+    let first : to_z w64 (of_z w64 (component hi k)) ≡ component q.area.hi k = ap (λ xs. to_z w64 (of_z w64 (component xs k))) eh ∙ read64 10000000 (component q.area.hi k) upper (lit< tt) in
+    let second : to_z w64 (of_z w64 (component lo k)) ≡ component q.area.lo k = ap (λ xs. to_z w64 (of_z w64 (component xs k))) el ∙ read64 10000000 (component q.area.lo k) lower (lit< tt) in
+    let value : s ≡ component q.area.hi k -ℤ component q.area.lo k = es ∙ ap (λ z. z -ℤ to_z w64 (of_z w64 (component lo k))) first ∙ ap (λ z. component q.area.hi k -ℤ z) second in
     whole_number s _ (10000000 + 10000000) w ew value (within_difference upper lower) (lit< tt) ∙ ap whole_fraction (sym (right_of_range q k hk))
 
 pub cost_number : (q : Problem) (j : ℕ) (cost : List ℤ) (a : ℤ) (w : Fraction) → Fits q → j < columns q → cost ≡ q.cost
-    → w ≡ record { num = to_z w64 (of_z w64 (pos 0 -ℤ to_z w64 (of_z w64 a))); den = 1 } → a ≡ pos (unsigned_abs (to_z w64 (of_z w64 (entry cost j)))) → w ≡ whole_fraction (opening_number q (cost_row q) j)
+    → w ≡ record { num = to_z w64 (of_z w64 (pos 0 -ℤ to_z w64 (of_z w64 a))); den = 1 } → a ≡ pos (unsigned_abs (to_z w64 (of_z w64 (component cost j)))) → w ≡ whole_fraction (opening_number q (cost_row q) j)
 cost_number q j cost a w fits hj ec ew ea =
     let size = within_entry fits.costs j in
-    let read : to_z w64 (of_z w64 (entry cost j)) ≡ entry q.cost j = ap (λ xs. to_z w64 (of_z w64 (entry xs j))) ec ∙ read64 10000000 (entry q.cost j) size (lit< tt) in
-    let value : a ≡ pos (unsigned_abs (entry q.cost j)) = ea ∙ ap (λ z. pos (unsigned_abs z)) read in
-    let positive : IsWithin 10000000 (pos (unsigned_abs (entry q.cost j))) = record { magnitude = size.magnitude } in
-    let back : to_z w64 (of_z w64 a) ≡ pos (unsigned_abs (entry q.cost j)) = ap (λ z. to_z w64 (of_z w64 z)) value ∙ read64 10000000 _ positive (lit< tt) in
-    whole_number (pos 0 -ℤ to_z w64 (of_z w64 a)) (neg_ℤ (pos (unsigned_abs (entry q.cost j)))) 10000000 w ew (ap (λ z. pos 0 -ℤ z) back ∙ minus_natural (unsigned_abs (entry q.cost j))) (within_negation positive) (lit< tt) ∙ ap whole_fraction (sym (entry_of_cost q j hj))
+    let read : to_z w64 (of_z w64 (component cost j)) ≡ component q.cost j = ap (λ xs. to_z w64 (of_z w64 (component xs j))) ec ∙ read64 10000000 (component q.cost j) size (lit< tt) in
+    let value : a ≡ pos (unsigned_abs (component q.cost j)) = ea ∙ ap (λ z. pos (unsigned_abs z)) read in
+    let positive : IsWithin 10000000 (pos (unsigned_abs (component q.cost j))) = record { magnitude = size.magnitude } in
+    let back : to_z w64 (of_z w64 a) ≡ pos (unsigned_abs (component q.cost j)) = ap (λ z. to_z w64 (of_z w64 z)) value ∙ read64 10000000 _ positive (lit< tt) in
+    whole_number (pos 0 -ℤ to_z w64 (of_z w64 a)) (neg_ℤ (pos (unsigned_abs (component q.cost j)))) 10000000 w ew (ap (λ z. pos 0 -ℤ z) back ∙ minus_natural (unsigned_abs (component q.cost j))) (within_negation positive) (lit< tt) ∙ ap whole_fraction (sym (entry_of_cost q j hj))
 
 -- the row that was read
 pub read_row : (q : Problem) (i : ℕ) (r : Linear) → i < length q.rows → r ≡ slice_index_or q.rows i r → r ≡ linear_at q.rows i

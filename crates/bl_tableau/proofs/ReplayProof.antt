@@ -150,15 +150,15 @@ same_sides q d r c i x m s other says =
     let n = columns q in
     let e = pivoted d r c in
     let hc = s.narrow.possible.column_in in
-    let entry = over m (d.place i c) in
+    let component = over m (d.place i c) in
     let share = over m (e.place r c) in
     let old = sum_below_isolate n c (λ j. over m (d.place i j) *ℤ over m (x (d.column_label j))) hc in
-    let new = sum_remainder n c (λ j. over m (e.place i j)) (λ j. over m (d.place i j)) (λ j. over m (e.place r j)) (λ j. over m (x (d.column_label j))) (λ j. over m (x (e.column_label j))) (pos m) entry (neg_ℤ (entry *ℤ share)) hc
+    let new = sum_remainder n c (λ j. over m (e.place i j)) (λ j. over m (d.place i j)) (λ j. over m (e.place r j)) (λ j. over m (x (d.column_label j))) (λ j. over m (x (e.column_label j))) (pos m) component (neg_ℤ (component *ℤ share)) hc
     (λ j l ne. remainder_tied q d r c i x m j s other (omega arith) ne) (λ j l ne. ap (λ k. over m (x k)) (column_label_other d r c j ne)) (own_tied q d r c i x m s other) in
     let rest = sum_below n (without c (λ j. over m (d.place i j) *ℤ over m (x (d.column_label j)))) in
     let shares = sum_below n (without c (λ j. over m (e.place r j) *ℤ over m (x (d.column_label j)))) in
-    let turned = ap (λ k. neg_ℤ (entry *ℤ share) *ℤ over m (x k) +ℤ (rest *ℤ pos m -ℤ entry *ℤ shares)) (column_label_own d r c) in
-    other_row m entry (over m (d.place i n)) (over m (e.place i n)) (row_total n d x i m) (row_total n e x i m) rest (over m (e.place r n)) shares share (over m (x (d.row_label r))) (over m (x (d.column_label c))) s.some
+    let turned = ap (λ k. neg_ℤ (component *ℤ share) *ℤ over m (x k) +ℤ (rest *ℤ pos m -ℤ component *ℤ shares)) (column_label_own d r c) in
+    other_row m component (over m (d.place i n)) (over m (e.place i n)) (row_total n d x i m) (row_total n e x i m) rest (over m (e.place r n)) shares share (over m (x (d.row_label r))) (over m (x (d.column_label c))) s.some
     (remainder_tied q d r c i x m n s other (omega arith) (not_the_end n c hc)) old (new ∙ turned) says
 
 pub new_row_solved : (q : Problem) (d : Dictionary) (r c i : ℕ) (x : ℕ → Fraction) (m : ℕ) → Setting q d r c i x m → i ≢ r → pivot_says q d r c x m → SolvesRow (columns q) d x i → SolvesRow (columns q) (pivoted d r c) x i

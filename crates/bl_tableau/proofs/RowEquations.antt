@@ -40,8 +40,8 @@ total_positive (suc n) f h =
     product_positive (rational_total n f).den (f n).den (total_positive n f (λ j l. h j (omega arith))) (h n (omega arith))
 
 -- the two sides of a row over m squared
-left_side : (n : ℕ) (d : Dictionary) (x : ℕ → Fraction) (i m : ℕ) → CommonRow n d x i m → IsOver (m * m) (x (d.row_label i)) (over m (x (d.row_label i)) *ℤ pos m)
-left_side n d x i m h = over_more m m (x (d.row_label i)) (over m (x (d.row_label i))) (over_is m (x (d.row_label i)) h.row)
+lhs_of : (n : ℕ) (d : Dictionary) (x : ℕ → Fraction) (i m : ℕ) → CommonRow n d x i m → IsOver (m * m) (x (d.row_label i)) (over m (x (d.row_label i)) *ℤ pos m)
+lhs_of n d x i m h = over_more m m (x (d.row_label i)) (over m (x (d.row_label i))) (over_is m (x (d.row_label i)) h.row)
 
 right_side : (n : ℕ) (d : Dictionary) (x : ℕ → Fraction) (i m : ℕ) → CommonRow n d x i m
     → IsOver (m * m) (rational_difference (d.place i n) (rational_total n (λ j. rational_product (d.place i j) (x (d.column_label j))))) (over m (d.place i n) *ℤ pos m -ℤ row_total n d x i m)
@@ -59,11 +59,11 @@ right_positive q d x i all values hi =
 
 pub equation_from_row : (q : Problem) (d : Dictionary) (x : ℕ → Fraction) (i m : ℕ) → ArePositive q d → ValuesPositive x → i ≤ cost_row q → CommonRow (columns q) d x i m → SolvesRow (columns q) d x i → RowEquation (columns q) d x i m
 equation_from_row q d x i m all values hi h solved =
-    over_from_same (m * m) _ _ _ _ (values.each (d.row_label i)) (right_positive q d x i all values hi) (left_side (columns q) d x i m h) (right_side (columns q) d x i m h) solved
+    over_from_same (m * m) _ _ _ _ (values.each (d.row_label i)) (right_positive q d x i all values hi) (lhs_of (columns q) d x i m h) (right_side (columns q) d x i m h) solved
 
 pub row_from_equation : (q : Problem) (d : Dictionary) (x : ℕ → Fraction) (i m : ℕ) → 0 < m → CommonRow (columns q) d x i m → RowEquation (columns q) d x i m → SolvesRow (columns q) d x i
 row_from_equation q d x i m some h e =
-    same_from_over (m * m) _ _ _ _ (product_positive m m some some) (left_side (columns q) d x i m h) (right_side (columns q) d x i m h) e
+    same_from_over (m * m) _ _ _ _ (product_positive m m some some) (lhs_of (columns q) d x i m h) (right_side (columns q) d x i m h) e
 
 -- ---- the places after a pivot, over m
 

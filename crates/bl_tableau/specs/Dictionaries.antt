@@ -1,6 +1,6 @@
 -- The dictionary of the simplex method over a box (Chvatal 1983), and the one that a problem begins with.
 use Rattle.std.specs.Prelude.{ℕ, ◌+◌, ◌-◌, Bool, nat_lt, ◌==◌, if◌then◌else◌, ℤ, pos, negsuc, neg_ℤ, ◌-ℤ◌, ◌*ℤ◌, int_lt, unsigned_abs, List, length}
-use Rattle.bl_whole.specs.Sums.{entry, sum_below}
+use Rattle.bl_whole.specs.Sums.{component, sum_below}
 use Rattle.bl_terms.specs.Bounds.{Problem, linear_at}
 use Rattle.bl_frac.specs.Fraction.{Fraction}
 
@@ -24,11 +24,11 @@ cost_row q = length q.rows + columns q
 
 -- column j costs less the greater it is
 abbrev pub descends : Problem → ℕ → Bool
-descends q j = int_lt (entry q.cost j) (pos 0)
+descends q j = int_lt (component q.cost j) (pos 0)
 
 -- the end of column j's range at which it costs least. The variable with number j is how far the column is from it
 abbrev pub start_at : Problem → ℕ → ℤ
-start_at q j = if descends q j then entry q.area.hi j else entry q.area.lo j
+start_at q j = if descends q j then component q.area.hi j else component q.area.lo j
 
 -- the direction in which column j leaves that end
 abbrev pub sign_at : Problem → ℕ → ℤ
@@ -36,25 +36,25 @@ sign_at q j = if descends q j then negsuc 0 else pos 1
 
 -- the value of coefficients where every column is at its start
 abbrev pub at_start : Problem → List ℤ → ℤ
-at_start q cs = sum_below (length cs) (λ j. entry cs j *ℤ start_at q j)
+at_start q cs = sum_below (length cs) (λ j. component cs j *ℤ start_at q j)
 
 -- the right side of row i: the slack of a row, the length of a range, or the cost, where every column is at its start
 abbrev pub opening_right : Problem → ℕ → ℤ
 opening_right q i =
     if nat_lt i (length q.rows)
-    then (linear_at q.rows i).right -ℤ at_start q (linear_at q.rows i).coef
+    then (linear_at q.rows i).rhs -ℤ at_start q (linear_at q.rows i).coef
     else (if nat_lt i (cost_row q)
-    then entry q.area.hi (i - length q.rows) -ℤ entry q.area.lo (i - length q.rows)
+    then component q.area.hi (i - length q.rows) -ℤ component q.area.lo (i - length q.rows)
     else at_start q q.cost)
 
 -- the entry of row i at column j
 abbrev pub opening_entry : Problem → ℕ → ℕ → ℤ
 opening_entry q i j =
     if nat_lt i (length q.rows)
-    then entry (linear_at q.rows i).coef j *ℤ sign_at q j
+    then component (linear_at q.rows i).coef j *ℤ sign_at q j
     else (if nat_lt i (cost_row q)
     then (if i == length q.rows + j then pos 1 else pos 0)
-    else neg_ℤ (pos (unsigned_abs (entry q.cost j))))
+    else neg_ℤ (pos (unsigned_abs (component q.cost j))))
 
 -- the number at row i and column j
 abbrev pub opening_number : Problem → ℕ → ℕ → ℤ

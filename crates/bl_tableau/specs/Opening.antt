@@ -1,6 +1,6 @@
 -- How the opening dictionary is built, row by row.
 use Rattle.std.specs.Prelude.{◌≡◌, ℕ, ◌+◌, ◌<◌, List, length, ℤ}
-use Rattle.bl_whole.specs.Sums.{entry}
+use Rattle.bl_whole.specs.Sums.{component}
 use Rattle.bl_whole.specs.Within.{AreWithin}
 use Rattle.bl_terms.specs.Bounds.{Problem}
 use Rattle.bl_frac.specs.Fraction.{Fraction}
@@ -17,5 +17,5 @@ pub record Appends (old new : List Fraction) (n : ℕ) (f : ℕ → ℤ) : Type 
 -- the list has the start of each column, of magnitude at most ten millions
 pub record AreStarts (q : Problem) (starts : List ℤ) : Type 0 where
   pub size : length starts ≡ columns q
-  pub each : (j : ℕ) → j < columns q → entry starts j ≡ start_at q j
+  pub each : (j : ℕ) → j < columns q → component starts j ≡ start_at q j
   pub within : AreWithin 10000000 starts

@@ -9,7 +9,7 @@ ghost use Rattle.bl_tableau.specs.Runs.{height_of, width_of};
 
 use bl_bound::Problem;
 use bl_frac::{Frac, reduced, whole};
-use bl_whole::{dot_product, long, wide};
+use bl_whole::{dot_product, int128, int64};
 use std::alloc::{AllocError, Global};
 
 /// The numbers `from`, `from + 1` and so on, so many of them.
@@ -74,7 +74,7 @@ fn push_row(
     for j in 0..cost.len() {
         cells.push(whole(signed(coef[j], cost[j] < 0)))?;
     }
-    let slack = wide::minus(i128::from(row.right()), dot_product(coef, starts));
+    let slack = int128::minus(i128::from(row.rhs()), dot_product(coef, starts));
     cells.push(fraction_of(slack))?;
     Ok(())
 }
@@ -91,7 +91,7 @@ fn push_range(cells: &mut Vec<Frac>, problem: &Problem<'_>, k: usize) -> Result<
     for j in 0..lo.len() {
         cells.push(whole(i64::from(j == k)))?;
     }
-    cells.push(whole(long::minus(hi[k], lo[k])))?;
+    cells.push(whole(int64::minus(hi[k], lo[k])))?;
     Ok(())
 }
 

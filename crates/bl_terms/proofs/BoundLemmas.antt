@@ -4,11 +4,12 @@ use Rattle.std.specs.Prelude.{ℤ, pos, ◌+ℤ◌, ◌-ℤ◌, ◌*ℤ◌, ◌�
 use Rattle.std.proofs.Math.IntN.{zero-*ℤ, *ℤ_comm}
 use Rattle.std.proofs.lemmas.Int.{ints}
 use Rattle.std.specs.Int.Signed.{≤ℤ_refl}
-use Rattle.bl_whole.specs.Sums.{entry, sum_below, dot}
+use Rattle.bl_whole.specs.Sums.{component, sum_below, dot}
 use Rattle.bl_whole.proofs.Products.{*ℤ_assoc, +ℤ-*ℤ, mul_le_left, mul_le_left_neg, lt_of_mul_lt}
 use Rattle.bl_whole.proofs.SumLemmas.{sum_below-agree, sum_below-add, sum_below-scale, sum_below-exchange, sum_below_monotone}
 use Rattle.bl_terms.specs.Points.{Area, IsArea, InArea}
-use Rattle.bl_terms.specs.Bounds.{Problem, linear_at, IsPoint, IsProblem, Weights, weight_at, least_product, least_term, right_sum, bound_of, Proves, LeastProduct, WeakDuality, NoPoint, NoCutoffNoPoint, over, TreeOfProofs, TreeOfRefusals}
+use Rattle.bl_terms.specs.Bounds.{Problem, linear_at, IsPoint, IsProblem, Multipliers, reduced_cost, least_product, least_term, rhs_sum, dual_bound, Proves, LeastProduct, WeakDuality, NoPoint, NoCutoffNoPoint, over, TreeOfProofs, TreeOfRefusals}
+use Rattle.bl_terms.specs.Trees.{Anything}
 use Rattle.bl_terms.proofs.TreeLemmas.{tree_shows}
 
 least_of_range : (a lo hi x : ℤ) → lo ≤ℤ x → x ≤ℤ hi → least_product a lo hi ≤ℤ (a *ℤ x)
@@ -29,50 +30,50 @@ pub least_product_is_least : LeastProduct
 least_product_is_least a lo hi h = (least_of_range a lo hi, reached_in_range a lo hi h)
 
 -- one column's term: the weight's parts are multiplied by the column's number one by one
-term : (q : Problem) (w : Weights) (z : List ℤ) (j : ℕ) → weight_at q w j *ℤ entry z j
-    ≡ w.den *ℤ (entry q.cost j *ℤ entry z j) +ℤ sum_below (length q.rows) (λ i. entry w.mult i *ℤ (entry (linear_at q.rows i).coef j *ℤ entry z j))
+term : (q : Problem) (w : Multipliers) (z : List ℤ) (j : ℕ) → reduced_cost q w j *ℤ component z j
+    ≡ w.den *ℤ (component q.cost j *ℤ component z j) +ℤ sum_below (length q.rows) (λ i. component w.mult i *ℤ (component (linear_at q.rows i).coef j *ℤ component z j))
 term q w z j =
     let m = length q.rows in
-    let a : ℕ → ℤ = λ i. entry w.mult i *ℤ entry (linear_at q.rows i).coef j in
-    let parts = +ℤ-*ℤ (w.den *ℤ entry q.cost j) (sum_below m a) (entry z j) in
-    let cost = *ℤ_assoc w.den (entry q.cost j) (entry z j) in
-    let turned = *ℤ_comm (sum_below m a) (entry z j) in
-    let scaled = sum_below-scale m (entry z j) a in
-    let each : sum_below m (λ i. entry z j *ℤ a i) ≡ sum_below m (λ i. entry w.mult i *ℤ (entry (linear_at q.rows i).coef j *ℤ entry z j)) =
-    sum_below-agree m (λ i. entry z j *ℤ a i) (λ i. entry w.mult i *ℤ (entry (linear_at q.rows i).coef j *ℤ entry z j))
-    (λ i b. *ℤ_comm (entry z j) (a i) ∙ *ℤ_assoc (entry w.mult i) (entry (linear_at q.rows i).coef j) (entry z j)) in
+    let a : ℕ → ℤ = λ i. component w.mult i *ℤ component (linear_at q.rows i).coef j in
+    let parts = +ℤ-*ℤ (w.den *ℤ component q.cost j) (sum_below m a) (component z j) in
+    let cost = *ℤ_assoc w.den (component q.cost j) (component z j) in
+    let turned = *ℤ_comm (sum_below m a) (component z j) in
+    let scaled = sum_below-scale m (component z j) a in
+    let each : sum_below m (λ i. component z j *ℤ a i) ≡ sum_below m (λ i. component w.mult i *ℤ (component (linear_at q.rows i).coef j *ℤ component z j)) =
+    sum_below-agree m (λ i. component z j *ℤ a i) (λ i. component w.mult i *ℤ (component (linear_at q.rows i).coef j *ℤ component z j))
+    (λ i b. *ℤ_comm (component z j) (a i) ∙ *ℤ_assoc (component w.mult i) (component (linear_at q.rows i).coef j) (component z j)) in
     omega (arith, ints)
 
 -- the weighted rows and the weighted cost at z, column by column
-weighted : (q : Problem) (w : Weights) (z : List ℤ) → IsProblem q
-    → sum_below (length q.area.lo) (λ j. weight_at q w j *ℤ entry z j)
-    ≡ w.den *ℤ dot q.cost z +ℤ sum_below (length q.rows) (λ i. entry w.mult i *ℤ dot (linear_at q.rows i).coef z)
+weighted : (q : Problem) (w : Multipliers) (z : List ℤ) → IsProblem q
+    → sum_below (length q.area.lo) (λ j. reduced_cost q w j *ℤ component z j)
+    ≡ w.den *ℤ dot q.cost z +ℤ sum_below (length q.rows) (λ i. component w.mult i *ℤ dot (linear_at q.rows i).coef z)
 weighted q w z g =
     let n = length q.area.lo in
     let m = length q.rows in
-    let a : ℕ → ℕ → ℤ = λ i j. entry w.mult i *ℤ (entry (linear_at q.rows i).coef j *ℤ entry z j) in
-    let each : sum_below n (λ j. weight_at q w j *ℤ entry z j) ≡ sum_below n (λ j. w.den *ℤ (entry q.cost j *ℤ entry z j) +ℤ sum_below m (λ i. a i j)) =
-    sum_below-agree n (λ j. weight_at q w j *ℤ entry z j) (λ j. w.den *ℤ (entry q.cost j *ℤ entry z j) +ℤ sum_below m (λ i. a i j)) (λ j b. term q w z j) in
-    let added = sum_below-add n (λ j. w.den *ℤ (entry q.cost j *ℤ entry z j)) (λ j. sum_below m (λ i. a i j)) in
-    let cost : sum_below n (λ j. w.den *ℤ (entry q.cost j *ℤ entry z j)) ≡ w.den *ℤ dot q.cost z =
-    rw (← g.cost_columns) (sum_below-scale (length q.cost) w.den (λ j. entry q.cost j *ℤ entry z j)) in
+    let a : ℕ → ℕ → ℤ = λ i j. component w.mult i *ℤ (component (linear_at q.rows i).coef j *ℤ component z j) in
+    let each : sum_below n (λ j. reduced_cost q w j *ℤ component z j) ≡ sum_below n (λ j. w.den *ℤ (component q.cost j *ℤ component z j) +ℤ sum_below m (λ i. a i j)) =
+    sum_below-agree n (λ j. reduced_cost q w j *ℤ component z j) (λ j. w.den *ℤ (component q.cost j *ℤ component z j) +ℤ sum_below m (λ i. a i j)) (λ j b. term q w z j) in
+    let added = sum_below-add n (λ j. w.den *ℤ (component q.cost j *ℤ component z j)) (λ j. sum_below m (λ i. a i j)) in
+    let cost : sum_below n (λ j. w.den *ℤ (component q.cost j *ℤ component z j)) ≡ w.den *ℤ dot q.cost z =
+    rw (← g.cost_columns) (sum_below-scale (length q.cost) w.den (λ j. component q.cost j *ℤ component z j)) in
     let turned : sum_below n (λ j. sum_below m (λ i. a i j)) ≡ sum_below m (λ i. sum_below n (λ j. a i j)) = sum_below-exchange n m (λ j i. a i j) in
-    let rows : sum_below m (λ i. sum_below n (λ j. a i j)) ≡ sum_below m (λ i. entry w.mult i *ℤ dot (linear_at q.rows i).coef z) =
-    sum_below-agree m (λ i. sum_below n (λ j. a i j)) (λ i. entry w.mult i *ℤ dot (linear_at q.rows i).coef z)
+    let rows : sum_below m (λ i. sum_below n (λ j. a i j)) ≡ sum_below m (λ i. component w.mult i *ℤ dot (linear_at q.rows i).coef z) =
+    sum_below-agree m (λ i. sum_below n (λ j. a i j)) (λ i. component w.mult i *ℤ dot (linear_at q.rows i).coef z)
     (λ i b. let c = g.row_columns i b in
-    rw (← c) (sum_below-scale (length (linear_at q.rows i).coef) (entry w.mult i) (λ j. entry (linear_at q.rows i).coef j *ℤ entry z j))) in
+    rw (← c) (sum_below-scale (length (linear_at q.rows i).coef) (component w.mult i) (λ j. component (linear_at q.rows i).coef j *ℤ component z j))) in
     omega (arith, ints)
 
 -- the bound is at most the weighted cost of each point of the box that meets the rows
-bound_below_cost : (q : Problem) (u : Option ℤ) (w : Weights) (z : List ℤ) → IsProblem q → Proves q u w → IsPoint q z → bound_of q w ≤ℤ (w.den *ℤ dot q.cost z)
+bound_below_cost : (q : Problem) (u : Option ℤ) (w : Multipliers) (z : List ℤ) → IsProblem q → Proves q u w → IsPoint q z → dual_bound q w ≤ℤ (w.den *ℤ dot q.cost z)
 bound_below_cost q u w z g proof point =
     let m = length q.rows in
-    let least : sum_below (length q.area.lo) (least_term q w) ≤ℤ sum_below (length q.area.lo) (λ j. weight_at q w j *ℤ entry z j) =
-    sum_below_monotone (length q.area.lo) (least_term q w) (λ j. weight_at q w j *ℤ entry z j)
-    (λ j b. least_of_range (weight_at q w j) (entry q.area.lo j) (entry q.area.hi j) (entry z j) (point.inside.least j b) (point.inside.most j b)) in
-    let rights : sum_below m (λ i. entry w.mult i *ℤ dot (linear_at q.rows i).coef z) ≤ℤ right_sum q w =
-    sum_below_monotone m (λ i. entry w.mult i *ℤ dot (linear_at q.rows i).coef z) (λ i. entry w.mult i *ℤ (linear_at q.rows i).right)
-    (λ i b. mul_le_left (entry w.mult i) (proof.weights.least i (rw proof.rows b)) (point.rows i b).holds) in
+    let least : sum_below (length q.area.lo) (least_term q w) ≤ℤ sum_below (length q.area.lo) (λ j. reduced_cost q w j *ℤ component z j) =
+    sum_below_monotone (length q.area.lo) (least_term q w) (λ j. reduced_cost q w j *ℤ component z j)
+    (λ j b. least_of_range (reduced_cost q w j) (component q.area.lo j) (component q.area.hi j) (component z j) (point.inside.least j b) (point.inside.most j b)) in
+    let rights : sum_below m (λ i. component w.mult i *ℤ dot (linear_at q.rows i).coef z) ≤ℤ rhs_sum q w =
+    sum_below_monotone m (λ i. component w.mult i *ℤ dot (linear_at q.rows i).coef z) (λ i. component w.mult i *ℤ (linear_at q.rows i).rhs)
+    (λ i b. mul_le_left (component w.mult i) (proof.multipliers.least i (rw proof.rows b)) (point.rows i b).holds) in
     let e = weighted q w z g in
     omega (arith, ints)
 
@@ -80,7 +81,7 @@ pub weak_duality : WeakDuality
 weak_duality q u w z g proof point =
     let h = bound_below_cost q (Some u) w z g proof point in
     let b = proof.beyond in
-    let l = lt_of_mul_lt {a = u -ℤ pos 1} {b = dot q.cost z} w.den proof.weights.den_least (omega (arith, ints)) in
+    let l = lt_of_mul_lt {a = u -ℤ pos 1} {b = dot q.cost z} w.den proof.multipliers.den_least (omega (arith, ints)) in
     omega (arith, ints)
 
 pub no_point : NoPoint
@@ -107,12 +108,12 @@ over_problem q a z g area inside whole =
 
 pub tree_of_proofs : TreeOfProofs
 tree_of_proofs q u nodes z g tree point =
-    tree_shows (λ a w. Proves (over q a) (Some u) w) (λ x. IsPoint q x → u ≤ℤ dot q.cost x)
+    tree_shows Anything (λ a w. Proves (over q a) (Some u) w) (λ x. IsPoint q x → u ≤ℤ dot q.cost x)
     (λ a w x area closed inside p. weak_duality (over q a) u w x (over_problem q a x g area inside p.inside) closed (record { inside = inside; rows = p.rows }))
     nodes q.area g.box tree z point.inside point
 
 pub tree_of_refusals : TreeOfRefusals
 tree_of_refusals q nodes z g tree point =
-    tree_shows (λ a w. Proves (over q a) None w) (λ x. IsPoint q x → ⊥)
+    tree_shows Anything (λ a w. Proves (over q a) None w) (λ x. IsPoint q x → ⊥)
     (λ a w x area closed inside p. no_cutoff_no_point (over q a) w x (over_problem q a x g area inside p.inside) closed (record { inside = inside; rows = p.rows }))
     nodes q.area g.box tree z point.inside point

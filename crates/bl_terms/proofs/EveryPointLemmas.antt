@@ -1,15 +1,15 @@
 -- The tests of `EveryPoint` decide the definitions.
 use Rattle.std.proofs.Common.{◌≡◌, ℕ, zero, suc, ◌<◌, refl, sym, ◌∙◌, ap, subst, arith, Bool, true, false, not, cond, ◌&&◌, ◌||◌, List, [], ◌∷◌, length, ◌⊎◌, inl, inr}
-use Rattle.std.specs.Prelude.{ℤ, pos, ◌+ℤ◌, ◌-ℤ◌, ◌≤ℤ◌, ◌<ℤ◌, int_le, int_lt, nat_eq, unsigned_abs, IsTrue}
+use Rattle.std.specs.Prelude.{ℤ, pos, ◌+ℤ◌, ◌-ℤ◌, ◌*ℤ◌, ◌≤ℤ◌, ◌<ℤ◌, int_le, int_lt, nat_eq, unsigned_abs, IsTrue}
 use Rattle.std.specs.Bool.{Decides}
 use Rattle.std.specs.Ordering.{int_eq}
 use Rattle.std.proofs.lemmas.Int.{ints, by_lt_z}
 use Rattle.std.proofs.lemmas.Bool.{cases_Bool, cases_lt, true≢false}
 use Rattle.std.proofs.lemmas.Bool.Decides.{Decides-eqb, Decides-int_eq, Decides-and, Decides-or, Decides-not, Decides-like}
 use Rattle.std.proofs.lemmas.List.{ext_get_or}
-use Rattle.bl_whole.specs.Sums.{entry, dot}
+use Rattle.bl_whole.specs.Sums.{component, dot}
 use Rattle.bl_terms.specs.Points.{Meets, is_among}
-use Rattle.bl_terms.specs.Programs.{Program, columns, row_at, inequality, In, Rows, Lower, IsLeader, SameLead, cost_at, follower_at}
+use Rattle.bl_terms.specs.Programs.{Program, columns, row_at, inequality, InBox, MeetsRows, MeetsLowerRows, IsLeader, SameLead, cost_at, value_at, follower_at}
 use Rattle.bl_terms.specs.Feasible.{BilevelFeasible, Optimal, IsOnlyOptimum, Infeasible}
 use Rattle.bl_terms.specs.EveryPoint.{all_numbers, all_below, count_between, all_points, all_of_box, is_in, meets_row, meets_rows, meets_lower, low_from, high_from, is_feasible, is_optimal, is_only_optimum, is_infeasible, TestsDecide}
 use Rattle.bl_terms.proofs.TestLemmas.{Decides-int_le, Decides-int_lt, Decides-implies, Decides-self, and_true, pos-unsigned_abs}
@@ -43,8 +43,8 @@ all_numbers_decides x (suc n) test =
 -- z has n numbers, each in its range
 record IsBetween (n : ℕ) (lo hi : ℕ → ℤ) (z : List ℤ) : Type 0 where
   count : length z ≡ n
-  least : (k : ℕ) → k < n → lo k ≤ℤ entry z k
-  most : (k : ℕ) → k < n → entry z k ≤ℤ hi k
+  least : (k : ℕ) → k < n → lo k ≤ℤ component z k
+  most : (k : ℕ) → k < n → component z k ≤ℤ hi k
 
 -- the numbers counted from lo on are those up to hi
 count_between_is : (lo hi x : ℤ) → lo ≤ℤ x → x ≤ℤ hi → x <ℤ (lo +ℤ pos (count_between lo hi))
@@ -64,11 +64,11 @@ between_count lo hi x low high = by (int_le lo hi) refl high
 between_cons : (n : ℕ) (lo hi : ℕ → ℤ) (x : ℤ) (z : List ℤ) → lo 0 ≤ℤ x → x ≤ℤ hi 0 → IsBetween n (λ k. lo (suc k)) (λ k. hi (suc k)) z → IsBetween (suc n) lo hi (x ∷ z)
 between_cons n lo hi x z low high b = record { count = ap suc b.count; least = lows; most = highs }
   where
-    lows : (k : ℕ) → k < suc n → lo k ≤ℤ entry (x ∷ z) k
+    lows : (k : ℕ) → k < suc n → lo k ≤ℤ component (x ∷ z) k
     lows zero c = low
     lows (suc k) c = b.least k (omega arith)
 
-    highs : (k : ℕ) → k < suc n → entry (x ∷ z) k ≤ℤ hi k
+    highs : (k : ℕ) → k < suc n → component (x ∷ z) k ≤ℤ hi k
     highs zero c = high
     highs (suc k) c = b.most k (omega arith)
 
@@ -105,32 +105,32 @@ all_points_decides (suc n) lo hi test =
         backward h = numbers.1 (λ x low high. (inner x).1 (λ z b. h (x ∷ z) (between_cons n lo hi x z low (between_count (lo 0) (hi 0) x low high) b)))
 
 -- the points of the program's box
-all_of_box_decides : (p : Program) (test : List ℤ → Bool) → Decides (all_of_box p test) ((z : List ℤ) → In p z → test z ≡ true)
+all_of_box_decides : (p : Program) (test : List ℤ → Bool) → Decides (all_of_box p test) ((z : List ℤ) → InBox p z → test z ≡ true)
 all_of_box_decides p test =
     Decides-like (all_of_box p test) (λ h z inside. h z (record { count = inside.columns; least = inside.least; most = inside.most }))
     (λ h z b. h z (record { columns = b.count; least = b.least; most = b.most }))
-    (all_points_decides (columns p) (entry p.lo) (entry p.hi) test)
+    (all_points_decides (columns p) (component p.lo) (component p.hi) test)
 
-pub is_in_decides : (p : Program) (z : List ℤ) → Decides (is_in p z) (In p z)
+pub is_in_decides : (p : Program) (z : List ℤ) → Decides (is_in p z) (InBox p z)
 is_in_decides p z =
     Decides-like (is_in p z)
     (λ both. record { columns = both.0; least = λ k b. (both.1 k b).0; most = λ k b. (both.1 k b).1 })
     (λ inside. (inside.columns, λ k b. (inside.least k b, inside.most k b)))
-    (Decides-and (nat_eq (length z) (columns p)) (all_below (columns p) (λ k. int_le (entry p.lo k) (entry z k) && int_le (entry z k) (entry p.hi k)))
+    (Decides-and (nat_eq (length z) (columns p)) (all_below (columns p) (λ k. int_le (component p.lo k) (component z k) && int_le (component z k) (component p.hi k)))
     (Decides-eqb (length z) (columns p))
-    (all_below_decides (columns p) (λ k. int_le (entry p.lo k) (entry z k) && int_le (entry z k) (entry p.hi k)) (λ k. (entry p.lo k ≤ℤ entry z k) × (entry z k ≤ℤ entry p.hi k))
-    (λ k b. Decides-and (int_le (entry p.lo k) (entry z k)) (int_le (entry z k) (entry p.hi k)) (Decides-int_le (entry p.lo k) (entry z k)) (Decides-int_le (entry z k) (entry p.hi k)))))
+    (all_below_decides (columns p) (λ k. int_le (component p.lo k) (component z k) && int_le (component z k) (component p.hi k)) (λ k. (component p.lo k ≤ℤ component z k) × (component z k ≤ℤ component p.hi k))
+    (λ k b. Decides-and (int_le (component p.lo k) (component z k)) (int_le (component z k) (component p.hi k)) (Decides-int_le (component p.lo k) (component z k)) (Decides-int_le (component z k) (component p.hi k)))))
 
 meets_row_decides : (p : Program) (z : List ℤ) (i : ℕ) → Decides (meets_row p z i) (Meets (inequality (row_at p.rows i)) z)
 meets_row_decides p z i =
-    Decides-like (meets_row p z i) (λ h. record { holds = h }) (λ m. m.holds) (Decides-int_le (dot (row_at p.rows i).coef z) (row_at p.rows i).right)
+    Decides-like (meets_row p z i) (λ h. record { holds = h }) (λ m. m.holds) (Decides-int_le (dot (row_at p.rows i).coef z) (row_at p.rows i).rhs)
 
-pub meets_rows_decides : (p : Program) (z : List ℤ) → Decides (meets_rows p z) (Rows p z)
+pub meets_rows_decides : (p : Program) (z : List ℤ) → Decides (meets_rows p z) (MeetsRows p z)
 meets_rows_decides p z =
     Decides-like (meets_rows p z) (λ h. record { each = h }) (λ m. m.each)
     (all_below_decides (length p.rows) (meets_row p z) (λ i. Meets (inequality (row_at p.rows i)) z) (λ i b. meets_row_decides p z i))
 
-pub meets_lower_decides : (p : Program) (z : List ℤ) → Decides (meets_lower p z) (Lower p z)
+pub meets_lower_decides : (p : Program) (z : List ℤ) → Decides (meets_lower p z) (MeetsLowerRows p z)
 meets_lower_decides p z =
     Decides-like (meets_lower p z) (λ h. record { each = h }) (λ m. m.each)
     (all_below_decides (length p.rows) (λ i. not (row_at p.rows i).lower || meets_row p z i) (λ i. IsTrue (row_at p.rows i).lower → Meets (inequality (row_at p.rows i)) z)
@@ -141,7 +141,7 @@ leads_from_test : (p : Program) (k : ℕ) → k < columns p → is_among k p.fol
 leads_from_test p k b f = record { column = b; leads = λ c. true≢false (sym (among_from_Contains k p.follower c) ∙ f) }
 
 -- the points that agree with z on the leader's columns are those between the ranges of `low_from` and `high_from`
-between_from_lead : (p : Program) (z z' : List ℤ) → In p z' → SameLead p z z' → IsBetween (columns p) (low_from p z) (high_from p z) z'
+between_from_lead : (p : Program) (z z' : List ℤ) → InBox p z' → SameLead p z z' → IsBetween (columns p) (low_from p z) (high_from p z) z'
 between_from_lead p z z' inside same = record {
   count = inside.columns;
   least = λ k b. elim (cases_Bool (is_among k p.follower)) [
@@ -154,7 +154,7 @@ between_from_lead p z z' inside same = record {
   ];
 }
 
-in_from_between : (p : Program) (z z' : List ℤ) → In p z → IsBetween (columns p) (low_from p z) (high_from p z) z' → In p z'
+in_from_between : (p : Program) (z z' : List ℤ) → InBox p z → IsBetween (columns p) (low_from p z) (high_from p z) z' → InBox p z'
 in_from_between p z z' inside between = record {
   columns = between.count;
   least = λ k b. let h = between.least k b in elim (cases_Bool (is_among k p.follower)) [
@@ -181,7 +181,7 @@ lead_from_between p z z' between = record {
 is_feasible_decides : (p : Program) (z : List ℤ) → Decides (is_feasible p z) (BilevelFeasible p z)
 is_feasible_decides p z =
     let better : List ℤ → Bool = λ z'. not (meets_lower p z') || int_le (follower_at p z) (follower_at p z') in
-    let each : (z' : List ℤ) → Decides (not (meets_lower p z') || int_le (follower_at p z) (follower_at p z')) (Lower p z' → follower_at p z ≤ℤ follower_at p z') =
+    let each : (z' : List ℤ) → Decides (not (meets_lower p z') || int_le (follower_at p z) (follower_at p z')) (MeetsLowerRows p z' → follower_at p z ≤ℤ follower_at p z') =
     λ z'. Decides-implies (meets_lower p z') (int_le (follower_at p z) (follower_at p z')) (meets_lower_decides p z') (Decides-int_le (follower_at p z) (follower_at p z')) in
     Decides-like (is_feasible p z)
     (λ all. record {
@@ -203,29 +203,29 @@ is_infeasible_decides p =
 
 is_optimal_decides : (p : Program) (z : List ℤ) (v : ℤ) → Decides (is_optimal p z v) (Optimal p z v)
 is_optimal_decides p z v =
-    let each : (z' : List ℤ) → Decides (not (is_feasible p z') || int_le v (cost_at p z')) (BilevelFeasible p z' → v ≤ℤ cost_at p z') =
-    λ z'. Decides-implies (is_feasible p z') (int_le v (cost_at p z')) (is_feasible_decides p z') (Decides-int_le v (cost_at p z')) in
+    let each : (z' : List ℤ) → Decides (not (is_feasible p z') || int_le (cost_at p z) (cost_at p z')) (BilevelFeasible p z' → cost_at p z ≤ℤ cost_at p z') =
+    λ z'. Decides-implies (is_feasible p z') (int_le (cost_at p z) (cost_at p z')) (is_feasible_decides p z') (Decides-int_le (cost_at p z) (cost_at p z')) in
     Decides-like (is_optimal p z v)
     (λ all. record { feasible = all.0.0; value = all.0.1; least = λ z' f. (each z').0 (all.1 z' f.inside) f })
     (λ o. ((o.feasible, o.value), λ z' inside. (each z').1 (λ f. o.least z' f)))
-    (Decides-and (is_feasible p z && int_eq (cost_at p z) v) (all_of_box p (λ z'. not (is_feasible p z') || int_le v (cost_at p z')))
-    (Decides-and (is_feasible p z) (int_eq (cost_at p z) v) (is_feasible_decides p z) (Decides-int_eq (cost_at p z) v))
-    (all_of_box_decides p (λ z'. not (is_feasible p z') || int_le v (cost_at p z'))))
+    (Decides-and (is_feasible p z && int_eq (value_at p z) v) (all_of_box p (λ z'. not (is_feasible p z') || int_le (cost_at p z) (cost_at p z')))
+    (Decides-and (is_feasible p z) (int_eq (value_at p z) v) (is_feasible_decides p z) (Decides-int_eq (value_at p z) v))
+    (all_of_box_decides p (λ z'. not (is_feasible p z') || int_le (cost_at p z) (cost_at p z'))))
 
 is_only_optimum_decides : (p : Program) (z : List ℤ) (v : ℤ) → Decides (is_only_optimum p z v) (IsOnlyOptimum p z v)
 is_only_optimum_decides p z v =
-    let same : (z' : List ℤ) → Decides (all_below (columns p) (λ k. int_eq (entry z k) (entry z' k))) ((k : ℕ) → k < columns p → entry z k ≡ entry z' k) =
-    λ z'. all_below_decides (columns p) (λ k. int_eq (entry z k) (entry z' k)) (λ k. entry z k ≡ entry z' k) (λ k b. Decides-int_eq (entry z k) (entry z' k)) in
-    let each : (z' : List ℤ) → Decides (not (is_feasible p z') || (int_lt v (cost_at p z') || all_below (columns p) (λ k. int_eq (entry z k) (entry z' k))))
-    (BilevelFeasible p z' → (v <ℤ cost_at p z') ⊎ ((k : ℕ) → k < columns p → entry z k ≡ entry z' k)) =
-    λ z'. Decides-implies (is_feasible p z') (int_lt v (cost_at p z') || all_below (columns p) (λ k. int_eq (entry z k) (entry z' k))) (is_feasible_decides p z')
-    (Decides-or (int_lt v (cost_at p z')) (all_below (columns p) (λ k. int_eq (entry z k) (entry z' k))) (Decides-int_lt v (cost_at p z')) (same z')) in
+    let same : (z' : List ℤ) → Decides (all_below (columns p) (λ k. int_eq (component z k) (component z' k))) ((k : ℕ) → k < columns p → component z k ≡ component z' k) =
+    λ z'. all_below_decides (columns p) (λ k. int_eq (component z k) (component z' k)) (λ k. component z k ≡ component z' k) (λ k b. Decides-int_eq (component z k) (component z' k)) in
+    let each : (z' : List ℤ) → Decides (not (is_feasible p z') || (int_lt (cost_at p z) (cost_at p z') || all_below (columns p) (λ k. int_eq (component z k) (component z' k))))
+    (BilevelFeasible p z' → (cost_at p z <ℤ cost_at p z') ⊎ ((k : ℕ) → k < columns p → component z k ≡ component z' k)) =
+    λ z'. Decides-implies (is_feasible p z') (int_lt (cost_at p z) (cost_at p z') || all_below (columns p) (λ k. int_eq (component z k) (component z' k))) (is_feasible_decides p z')
+    (Decides-or (int_lt (cost_at p z) (cost_at p z')) (all_below (columns p) (λ k. int_eq (component z k) (component z' k))) (Decides-int_lt (cost_at p z) (cost_at p z')) (same z')) in
     Decides-like (is_only_optimum p z v)
     (λ all. record {
       optimal = all.0;
       alone = λ z' o.
           elim ((each z').0 (all.1 z' o.feasible.inside) o.feasible) [
-            | inl c ↦ let e = o.value in absurd (omega (arith, ints))
+            | inl c ↦ let l = o.least z all.0.feasible in absurd (omega (arith, ints))
             | inr eq ↦ ext_get_or (pos 0) z' z (o.feasible.inside.columns ∙ sym all.0.feasible.inside.columns)
                 (λ k b. sym (eq k (let e = o.feasible.inside.columns in omega arith)))
           ];
@@ -233,15 +233,20 @@ is_only_optimum_decides p z v =
     (λ u. (
       u.optimal,
       λ z' inside. (each z').1 (λ f.
-          by_lt_z v (cost_at p z') (λ c. inl c)
+          by_lt_z (cost_at p z) (cost_at p z') (λ c. inl c)
           (λ c. inr (λ k b.
           let l = u.optimal.least z' f in
-          let e = u.alone z' (record { feasible = f; value = omega (arith, ints); least = u.optimal.least }) in
-          ap (λ x. entry x k) (sym e)))),
+          let same : cost_at p z' ≡ cost_at p z = omega (arith, ints) in
+          let e = u.alone z' (record {
+            feasible = f;
+            value = ap (λ x. p.leader_sense *ℤ x) same ∙ u.optimal.value;
+            least = λ y g. let h = u.optimal.least y g in omega (arith, ints);
+          }) in
+          ap (λ x. component x k) (sym e)))),
     ))
-    (Decides-and (is_optimal p z v) (all_of_box p (λ z'. not (is_feasible p z') || (int_lt v (cost_at p z') || all_below (columns p) (λ k. int_eq (entry z k) (entry z' k)))))
+    (Decides-and (is_optimal p z v) (all_of_box p (λ z'. not (is_feasible p z') || (int_lt (cost_at p z) (cost_at p z') || all_below (columns p) (λ k. int_eq (component z k) (component z' k)))))
     (is_optimal_decides p z v)
-    (all_of_box_decides p (λ z'. not (is_feasible p z') || (int_lt v (cost_at p z') || all_below (columns p) (λ k. int_eq (entry z k) (entry z' k))))))
+    (all_of_box_decides p (λ z'. not (is_feasible p z') || (int_lt (cost_at p z) (cost_at p z') || all_below (columns p) (λ k. int_eq (component z k) (component z' k))))))
 
 pub tests_decide : TestsDecide
 tests_decide = record {

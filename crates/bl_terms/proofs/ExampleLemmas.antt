@@ -1,21 +1,22 @@
 -- The facts on the examples, by the tests that try every point.
-use Rattle.std.proofs.Common.{◌≡◌, ℕ, zero, suc, ◌^◌, ◌<◌, refl, arith, true, false, ◌&&◌, List, length, inl, inr}
+use Rattle.std.proofs.Common.{◌≡◌, ℕ, zero, suc, ◌<◌, refl, arith, true, false, ◌&&◌, List, length, inl, inr}
 use Rattle.std.specs.Prelude.{ℤ, pos, negsuc, ◌≤ℤ◌, ◌<ℤ◌, int_le, slice_index, IsTrue, Option, Some, None}
 use Rattle.std.specs.Int.Signed.{le_z_yes, lt_z_yes, clash_ℤ}
 use Rattle.std.proofs.Math.IntN.{zero-*ℤ}
 use Rattle.std.proofs.lemmas.Int.{ints}
 use Rattle.std.proofs.lemmas.Bool.Decides.{not_from_Decides}
-use Rattle.bl_whole.specs.Sums.{entry}
+use Rattle.bl_limits.specs.declared.TheConstants.{MAX_PROOF_NUMBER}
+use Rattle.bl_whole.specs.Sums.{component}
 use Rattle.bl_whole.proofs.Products.{one-*ℤ}
 use Rattle.bl_terms.specs.Points.{Area}
 use Rattle.bl_terms.specs.Programs.{Program, IsLeader, row_at}
 use Rattle.bl_terms.specs.Feasible.{BilevelFeasible}
-use Rattle.bl_terms.specs.Responses.{IsResponse, left_side, Best, NoResponse}
+use Rattle.bl_terms.specs.Responses.{IsResponse, lhs_of, Best, NoResponse}
 use Rattle.bl_terms.specs.Trees.{low_half, high_half}
-use Rattle.bl_terms.specs.Bounds.{IsProblem, Weights, Proves, mark_of, bound_of, linear_at}
+use Rattle.bl_terms.specs.Bounds.{IsProblem, relaxation, Multipliers, Proves, target_of, dual_bound, linear_at}
 use Rattle.bl_terms.specs.FollowerProofs.{ProvesBest, ClosesFollower, follower_box, follower_problem}
 use Rattle.bl_terms.specs.EveryPoint.{is_feasible, all_below}
-use Rattle.bl_terms.specs.Examples.{moore_bard, greatest_answer, least_answer, leader_chooses, leader_refuses, no_follower, one_point, half_row, one_cut, one, two, three, MooreBardFacts, SenseFacts, ChoiceFacts, RefusalFacts, OneLevelFacts, WholeFacts, SplitFacts, ProgramFacts, BoundFacts, EntryFacts, relaxation, weights, four, tree_at_two, tree_at_zero, tree_at_nine, WorkedExamples}
+use Rattle.bl_terms.specs.Examples.{moore_bard, greatest_answer, least_answer, leader_maximises, leader_chooses, leader_refuses, no_follower, one_point, half_row, one_cut, one, two, three, MooreBardFacts, SenseFacts, LeaderSenseFacts, ChoiceFacts, RefusalFacts, OneLevelFacts, WholeFacts, SplitFacts, ProgramFacts, BoundFacts, EntryFacts, weights, four, tree_at_two, tree_at_zero, tree_at_nine, WorkedExamples}
 use Rattle.bl_terms.proofs.BoundLemmas.{weak_duality}
 use Rattle.bl_terms.proofs.FollowerProofLemmas.{follower_proof_law}
 use Rattle.bl_terms.proofs.ExampleTests.{program_from_tests, limits_from_tests, proves_from_tests}
@@ -40,6 +41,12 @@ sense_facts = record {
   least = (tests_decide.only_optimum least_answer (two (pos 3) (pos 0)) (negsuc 5)).0 refl;
 }
 
+leader_sense_facts : LeaderSenseFacts
+leader_sense_facts = record {
+  program = program_from_tests leader_maximises refl refl refl refl refl refl refl refl refl (inr refl) (inr refl);
+  optimum = (tests_decide.only_optimum leader_maximises (two (pos 3) (pos 3)) (pos 3)).0 refl;
+}
+
 choice_facts : ChoiceFacts
 choice_facts = record {
   optimum = (tests_decide.optimal leader_chooses (three (pos 0) (pos 1) (pos 0)) (negsuc 0)).0 refl;
@@ -49,7 +56,7 @@ choice_facts = record {
 }
 
 -- (0, 1) and (0, 0) agree on the leader's column
-refuser_agrees : (k : ℕ) → IsLeader leader_refuses k → entry (two (pos 0) (pos 1)) k ≡ entry (two (pos 0) (pos 0)) k
+refuser_agrees : (k : ℕ) → IsLeader leader_refuses k → component (two (pos 0) (pos 1)) k ≡ component (two (pos 0) (pos 0)) k
 refuser_agrees zero l = refl
 refuser_agrees (suc zero) l = absurd (l.leads (0, omega arith, refl))
 refuser_agrees (suc (suc k)) l = refl
@@ -61,8 +68,8 @@ refusal_facts = record {
     reached = (two (pos 0) (pos 0), (is_in_decides leader_refuses (two (pos 0) (pos 0))).0 refl, (meets_lower_decides leader_refuses (two (pos 0) (pos 0))).0 refl, record { agree = refuser_agrees }, refl);
     least = λ z' inside lower same.
         let h = inside.least 1 (omega arith) in
-        let e = zero-*ℤ (entry z' 0) in
-        let f = one-*ℤ (entry z' 1) in
+        let e = zero-*ℤ (component z' 0) in
+        let f = one-*ℤ (component z' 1) in
         omega (arith, ints);
   };
   infeasible = (tests_decide.infeasible leader_refuses).0 refl;
@@ -84,7 +91,7 @@ whole_facts = record {
 
 split_facts : SplitFacts
 split_facts = record {
-  tree = (record { column = omega arith; least = le_z_yes tt; below = lt_z_yes tt }, (tt, (tt, tt)));
+  tree = ((record { column = omega arith; least = le_z_yes tt; below = lt_z_yes tt }, tt), (tt, (tt, tt)));
   parts = refl;
   points = refl;
 }
@@ -93,14 +100,16 @@ split_facts = record {
 
 program_facts : ProgramFacts
 program_facts = record {
-  first = (program_from_tests moore_bard refl refl refl refl refl refl refl refl refl (inl refl), limits_from_tests moore_bard refl refl refl refl refl refl refl refl);
-  second = (program_from_tests greatest_answer refl refl refl refl refl refl refl refl refl (inr refl), limits_from_tests greatest_answer refl refl refl refl refl refl refl refl);
-  third = (program_from_tests least_answer refl refl refl refl refl refl refl refl refl (inl refl), limits_from_tests least_answer refl refl refl refl refl refl refl refl);
-  fourth = (program_from_tests leader_chooses refl refl refl refl refl refl refl refl refl (inl refl), limits_from_tests leader_chooses refl refl refl refl refl refl refl refl);
-  fifth = (program_from_tests leader_refuses refl refl refl refl refl refl refl refl refl (inl refl), limits_from_tests leader_refuses refl refl refl refl refl refl refl refl);
-  sixth = (program_from_tests no_follower refl refl refl refl refl refl refl refl refl (inl refl), limits_from_tests no_follower refl refl refl refl refl refl refl refl);
-  seventh = (program_from_tests half_row refl refl refl refl refl refl refl refl refl (inl refl), limits_from_tests half_row refl refl refl refl refl refl refl refl);
-  eighth = (program_from_tests one_cut refl refl refl refl refl refl refl refl refl (inl refl), limits_from_tests one_cut refl refl refl refl refl refl refl refl);
+  first = (program_from_tests moore_bard refl refl refl refl refl refl refl refl refl (inl refl) (inl refl), limits_from_tests moore_bard refl refl refl refl refl refl refl refl);
+  second = (program_from_tests greatest_answer refl refl refl refl refl refl refl refl refl (inr refl) (inl refl), limits_from_tests greatest_answer refl refl refl refl refl refl refl refl);
+  third = (program_from_tests least_answer refl refl refl refl refl refl refl refl refl (inl refl) (inl refl), limits_from_tests least_answer refl refl refl refl refl refl refl refl);
+  fourth = (program_from_tests leader_chooses refl refl refl refl refl refl refl refl refl (inl refl) (inl refl), limits_from_tests leader_chooses refl refl refl refl refl refl refl refl);
+  fifth = (program_from_tests leader_refuses refl refl refl refl refl refl refl refl refl (inl refl) (inl refl), limits_from_tests leader_refuses refl refl refl refl refl refl refl refl);
+  sixth = (program_from_tests no_follower refl refl refl refl refl refl refl refl refl (inl refl) (inl refl), limits_from_tests no_follower refl refl refl refl refl refl refl refl);
+  seventh = (program_from_tests half_row refl refl refl refl refl refl refl refl refl (inl refl) (inl refl), limits_from_tests half_row refl refl refl refl refl refl refl refl);
+  ninth = (program_from_tests (one_point (pos 2)) refl refl refl refl refl refl refl refl refl (inl refl) (inl refl), limits_from_tests (one_point (pos 2)) refl refl refl refl refl refl refl refl);
+  tenth = (program_from_tests (one_point (pos 3)) refl refl refl refl refl refl refl refl refl (inl refl) (inl refl), limits_from_tests (one_point (pos 3)) refl refl refl refl refl refl refl refl);
+  eighth = (program_from_tests one_cut refl refl refl refl refl refl refl refl refl (inl refl) (inl refl), limits_from_tests one_cut refl refl refl refl refl refl refl refl);
 }
 
 -- ---- bound proofs and entries of Moore and Bard's program
@@ -137,15 +146,15 @@ answer_two = record {
   rows = rows;
 }
   where
-    least : (j : ℕ) → j < 1 → entry moore_bard.lo (slice_index moore_bard.follower j) ≤ℤ entry (one (pos 2)) j
+    least : (j : ℕ) → j < 1 → component moore_bard.lo (slice_index moore_bard.follower j) ≤ℤ component (one (pos 2)) j
     least zero b = le_z_yes tt
     least (suc j) b = absurd (omega arith)
 
-    most : (j : ℕ) → j < 1 → entry (one (pos 2)) j ≤ℤ entry moore_bard.hi (slice_index moore_bard.follower j)
+    most : (j : ℕ) → j < 1 → component (one (pos 2)) j ≤ℤ component moore_bard.hi (slice_index moore_bard.follower j)
     most zero b = le_z_yes tt
     most (suc j) b = absurd (omega arith)
 
-    rows : (i : ℕ) → i < 4 → IsTrue (row_at moore_bard.rows i).lower → left_side moore_bard (row_at moore_bard.rows i) (one (pos 2)) (one (pos 2)) ≤ℤ (row_at moore_bard.rows i).right
+    rows : (i : ℕ) → i < 4 → IsTrue (row_at moore_bard.rows i).lower → lhs_of moore_bard (row_at moore_bard.rows i) (one (pos 2)) (one (pos 2)) ≤ℤ (row_at moore_bard.rows i).rhs
     rows zero b low = le_z_yes tt
     rows (suc zero) b low = le_z_yes tt
     rows (suc (suc zero)) b low = le_z_yes tt
@@ -153,9 +162,9 @@ answer_two = record {
     rows (suc (suc (suc (suc i)))) b low = absurd (omega arith)
 
 -- a leaf of a tree at a link
-leaf_proof : (l : ℤ) (a : Area) (u : Option ℤ) (w : Weights) → length w.mult ≡ 4 → pos 0 ≤ℤ w.den → w.den ≤ℤ pos (2 ^ 50)
-    → all_below (length w.mult) (λ i. int_le (pos 0) (entry w.mult i) && int_le (entry w.mult i) (pos (2 ^ 50))) ≡ true → (u ≡ None → w.den ≡ pos 0)
-    → mark_of u w <ℤ bound_of (follower_problem moore_bard (one l) a) w → Proves (follower_problem moore_bard (one l) a) u w
+leaf_proof : (l : ℤ) (a : Area) (u : Option ℤ) (w : Multipliers) → length w.mult ≡ 4 → pos 0 ≤ℤ w.den → w.den ≤ℤ MAX_PROOF_NUMBER
+    → all_below (length w.mult) (λ i. int_le (pos 0) (component w.mult i) && int_le (component w.mult i) MAX_PROOF_NUMBER) ≡ true → (u ≡ None → w.den ≡ pos 0)
+    → target_of u w <ℤ dual_bound (follower_problem moore_bard (one l) a) w → Proves (follower_problem moore_bard (one l) a) u w
 leaf_proof l a u w = proves_from_tests (follower_problem moore_bard (one l) a) u w
 
 entry_facts : EntryFacts
@@ -166,7 +175,7 @@ entry_facts =
       tree = (leaf_proof (pos 2) (follower_box moore_bard) (Some (pos 2)) (weights (pos 10) (four (pos 0) (pos 0) (pos 0) (pos 1))) refl (le_z_yes tt) (le_z_yes tt) refl (λ e. cc) (lt_z_yes tt), tt);
     } in
     let at_zero : ClosesFollower moore_bard (one (pos 0)) None tree_at_zero = (
-      record { column = omega arith; least = le_z_yes tt; below = lt_z_yes tt },
+      (record { column = omega arith; least = le_z_yes tt; below = lt_z_yes tt }, tt),
       (
         leaf_proof (pos 0) (low_half (follower_box moore_bard) 0 (pos 1)) None (weights (pos 0) (four (pos 0) (pos 0) (pos 0) (pos 1))) refl (le_z_yes tt) (le_z_yes tt) refl (λ e. refl) (lt_z_yes tt),
         (leaf_proof (pos 0) (high_half (follower_box moore_bard) 0 (pos 1)) None (weights (pos 0) (four (pos 1) (pos 0) (pos 0) (pos 0))) refl (le_z_yes tt) (le_z_yes tt) refl (λ e. refl) (lt_z_yes tt), tt),
@@ -188,6 +197,7 @@ pub worked_examples : WorkedExamples
 worked_examples = record {
   moore_bard_facts = moore_bard_facts;
   sense_facts = sense_facts;
+  leader_sense_facts = leader_sense_facts;
   choice_facts = choice_facts;
   refusal_facts = refusal_facts;
   one_level_facts = one_level_facts;

@@ -4,13 +4,14 @@ use Rattle.std.specs.Prelude.{ℤ, ◌≤ℤ◌, Some, None, slice_index, IsTrue
 use Rattle.std.proofs.lemmas.Int.{ints}
 use Rattle.std.proofs.lemmas.List.{length-map}
 use Rattle.std.proofs.lemmas.Bool.{false≢true}
-use Rattle.bl_whole.specs.Sums.{entry}
+use Rattle.bl_whole.specs.Sums.{component}
 use Rattle.bl_terms.specs.Points.{Area, IsArea, InArea, Linear, Meets, values_at}
 use Rattle.bl_terms.specs.Programs.{Program, Row, row_at, IsProgram}
 use Rattle.bl_terms.specs.Responses.{IsResponse, response_cost, Best, NoResponse}
 use Rattle.bl_terms.specs.Bounds.{linear_at, IsPoint, IsProblem, Proves}
 use Rattle.bl_terms.specs.FollowerProofs.{follower_row, follower_rows, follower_box, follower_problem, FollowerProofLaw, FollowerPoints}
 use Rattle.bl_terms.proofs.PlaceLemmas.{Contains-at, values_at-entry}
+use Rattle.bl_terms.specs.Trees.{Anything}
 use Rattle.bl_terms.proofs.TreeLemmas.{tree_shows}
 use Rattle.bl_terms.proofs.BoundLemmas.{weak_duality, no_cutoff_no_point}
 
@@ -46,7 +47,7 @@ row_of_follower p l P (r ∷ rs) h = by (λ others. row_of_follower p l P rs oth
 
 follower_box-area : (p : Program) → IsProgram p → IsArea (follower_box p)
 follower_box-area p g = record {
-  sides = length-map p.follower (λ k. entry p.hi k) ∙ sym (length-map p.follower (λ k. entry p.lo k));
+  sides = length-map p.follower (λ k. component p.hi k) ∙ sym (length-map p.follower (λ k. component p.lo k));
   ordered = λ j b.
       let b' : j < length p.follower = rw length-map at b in
       rw (values_at-entry p.lo p.follower j b', values_at-entry p.hi p.follower j b')
@@ -56,7 +57,7 @@ follower_box-area p g = record {
 -- a response lies in the follower's box
 response_in_box : (p : Program) (l y : List ℤ) → IsResponse p l y → InArea (follower_box p) y
 response_in_box p l y r = record {
-  columns = r.ranges.count ∙ sym (length-map p.follower (λ k. entry p.lo k));
+  columns = r.ranges.count ∙ sym (length-map p.follower (λ k. component p.lo k));
   least = λ j b. let b' : j < length p.follower = rw length-map at b in rw (values_at-entry p.lo p.follower j b') (r.ranges.least j b');
   most = λ j b. let b' : j < length p.follower = rw length-map at b in rw (values_at-entry p.hi p.follower j b') (r.ranges.most j b');
 }
@@ -74,8 +75,8 @@ problem_from_response p l y a g area inside r =
     let n : length p.follower ≡ length a.lo = sym r.ranges.count ∙ inside.columns in
     record {
       box = area;
-      cost_columns = length-map p.follower (λ k. entry p.follower_cost k) ∙ n;
-      row_columns = each_follower_row p l (λ h. length h.coef ≡ length a.lo) p.rows (λ i b low. length-map p.follower (λ k. entry (row_at p.rows i).coef k) ∙ n);
+      cost_columns = length-map p.follower (λ k. component p.follower_cost k) ∙ n;
+      row_columns = each_follower_row p l (λ h. length h.coef ≡ length a.lo) p.rows (λ i b low. length-map p.follower (λ k. component (row_at p.rows i).coef k) ∙ n);
     }
 
 pub follower_proof_law : FollowerProofLaw
@@ -83,12 +84,12 @@ follower_proof_law p l (Best y v) nodes g proof = record {
   response = proof.response;
   value = proof.value;
   least = λ y' r.
-      tree_shows (λ a w. Proves (follower_problem p l a) (Some v) w) (λ x. IsResponse p l x → v ≤ℤ response_cost p x)
+      tree_shows Anything (λ a w. Proves (follower_problem p l a) (Some v) w) (λ x. IsResponse p l x → v ≤ℤ response_cost p x)
       (λ a w x area closed inside r'. weak_duality (follower_problem p l a) v w x (problem_from_response p l x a g area inside r') closed (point_from_response p l x a inside r'))
       nodes (follower_box p) (follower_box-area p g) proof.tree y' (response_in_box p l y' r) r;
 }
 follower_proof_law p l NoResponse nodes g proof = λ y r.
-    tree_shows (λ a w. Proves (follower_problem p l a) None w) (λ x. IsResponse p l x → ⊥)
+    tree_shows Anything (λ a w. Proves (follower_problem p l a) None w) (λ x. IsResponse p l x → ⊥)
     (λ a w x area closed inside r'. no_cutoff_no_point (follower_problem p l a) w x (problem_from_response p l x a g area inside r') closed (point_from_response p l x a inside r'))
     nodes (follower_box p) (follower_box-area p g) proof y (response_in_box p l y r) r
 
@@ -98,7 +99,7 @@ follower_points p l y a g part = (
     point.inside,
     record {
       ranges = record {
-        count = point.inside.columns ∙ part.columns ∙ length-map p.follower (λ k. entry p.lo k);
+        count = point.inside.columns ∙ part.columns ∙ length-map p.follower (λ k. component p.lo k);
         least = λ j b.
             let c : j < length (values_at p.lo p.follower) = rw length-map b in
             let h = part.least j c in

@@ -1,3 +1,4 @@
+pub mod PointLemmas
 pub mod PlaceLemmas
 pub mod TestLemmas
 pub mod ProgramLemmas

@@ -6,7 +6,7 @@ use Rattle.std.proofs.lemmas.Bool.Decides.{nat_tests}
 use Rattle.std.proofs.lemmas.List.{length-map, get_or-map, get_or-set_same, get_or-set_other, length-set, get_or_default}
 use Rattle.std.specs.List.Sorted.{IsStrictlyIncreasing}
 use Rattle.std.proofs.lemmas.Int.{ints}
-use Rattle.bl_whole.specs.Sums.{entry, sum_below, sum_over, dot}
+use Rattle.bl_whole.specs.Sums.{component, sum_below, sum_over, dot}
 use Rattle.bl_whole.proofs.SumLemmas.{sum_below-agree, sum_below-add, sum_below_picked, Contains-here, Contains-there, Contains-cases}
 use Rattle.bl_terms.specs.Points.{values_at, is_among}
 
@@ -43,14 +43,14 @@ pub place_of : (ks : List ℕ) (k : ℕ) → Contains ks k → (j : ℕ) × (j <
 place_of ks k c = (c.0, c.1, get_or_default ks c.0 0 k c.1 ∙ c.2)
 
 -- the number at a place of a list of values
-pub values_at-entry : (z : List ℤ) (ks : List ℕ) (j : ℕ) → j < length ks → entry (values_at z ks) j ≡ entry z (slice_index ks j)
-values_at-entry z ks j b = get_or-map (λ k. entry z k) ks j 0 (pos 0) b
+pub values_at-entry : (z : List ℤ) (ks : List ℕ) (j : ℕ) → j < length ks → component (values_at z ks) j ≡ component z (slice_index ks j)
+values_at-entry z ks j b = get_or-map (λ k. component z k) ks j 0 (pos 0) b
 
 -- the sum over ks of the products at its places
-pub dot-values_at : (c z : List ℤ) (ks : List ℕ) → dot (values_at c ks) (values_at z ks) ≡ sum_over ks (λ k. entry c k *ℤ entry z k)
+pub dot-values_at : (c z : List ℤ) (ks : List ℕ) → dot (values_at c ks) (values_at z ks) ≡ sum_over ks (λ k. component c k *ℤ component z k)
 dot-values_at c z ks =
-    rw (length-map ks (λ k. entry c k))
-    (sum_below-agree (length ks) (λ j. entry (values_at c ks) j *ℤ entry (values_at z ks) j) (λ j. entry c (slice_index ks j) *ℤ entry z (slice_index ks j))
+    rw (length-map ks (λ k. component c k))
+    (sum_below-agree (length ks) (λ j. component (values_at c ks) j *ℤ component (values_at z ks) j) (λ j. component c (slice_index ks j) *ℤ component z (slice_index ks j))
     (λ j b. let e = values_at-entry c ks j b in let f = values_at-entry z ks j b in cc))
 
 -- zs with the numbers of ys at the places ks
@@ -64,7 +64,7 @@ length-put_at [] ys zs = refl
 length-put_at (k ∷ ks) [] zs = refl
 length-put_at (k ∷ ks) (y ∷ ys) zs = rw length-set (length-put_at ks ys zs)
 
-pub put_at-other : (ks : List ℕ) (ys zs : List ℤ) (j : ℕ) → ¬ Contains ks j → entry (put_at ks ys zs) j ≡ entry zs j
+pub put_at-other : (ks : List ℕ) (ys zs : List ℤ) (j : ℕ) → ¬ Contains ks j → component (put_at ks ys zs) j ≡ component zs j
 put_at-other [] ys zs j absent = refl
 put_at-other (k ∷ ks) [] zs j absent = refl
 put_at-other (k ∷ ks) (y ∷ ys) zs j absent =
@@ -72,7 +72,7 @@ put_at-other (k ∷ ks) (y ∷ ys) zs j absent =
     get_or-set_other (put_at ks ys zs) k j y (pos 0) ne ∙ put_at-other ks ys zs j (λ c. absent (Contains-there k j ks c))
 
 pub put_at-same : (ks : List ℕ) (ys zs : List ℤ) → ((i j : ℕ) → i < j → j < length ks → slice_index ks i < slice_index ks j)
-    → ((k : ℕ) → Contains ks k → k < length zs) → length ys ≡ length ks → (j : ℕ) → j < length ks → entry (put_at ks ys zs) (slice_index ks j) ≡ entry ys j
+    → ((k : ℕ) → Contains ks k → k < length zs) → length ys ≡ length ks → (j : ℕ) → j < length ks → component (put_at ks ys zs) (slice_index ks j) ≡ component ys j
 put_at-same [] ys zs rise below e j b = absurd (omega arith)
 put_at-same (k ∷ ks) [] zs rise below e j b = absurd (omega arith)
 put_at-same (k ∷ ks) (y ∷ ys) zs rise below e zero b =

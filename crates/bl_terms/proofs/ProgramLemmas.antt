@@ -8,7 +8,7 @@ use Rattle.std.proofs.lemmas.Bool.{cases_lt, cases_order, true≢false}
 use Rattle.std.proofs.lemmas.Bool.Decides.{Decides-and, Decides-or, Decides-not, Decides-like, Decides-int_eq}
 use Rattle.std.proofs.lemmas.List.{get_or_append_left, get_or_push, length-append}
 use Rattle.std.proofs.lemmas.List.Elements.{Contains-append_left, Contains-push, Contains-push_cases}
-use Rattle.bl_whole.specs.Sums.{entry}
+use Rattle.bl_whole.specs.Sums.{component}
 use Rattle.bl_whole.proofs.SumLemmas.{rising_pairs, Contains-here, Contains-there, Contains-cases}
 use Rattle.bl_terms.specs.Points.{is_among}
 use Rattle.bl_terms.specs.Programs.{Program, Row, columns, row_at, IsLeader, IsInLower, is_in_lower, is_linking, linking_below, LinkingComputed}
@@ -17,7 +17,7 @@ use Rattle.bl_terms.proofs.PlaceLemmas.{Contains-at, place_of}
 
 -- some row of the follower among the first n has a coefficient other than 0
 abbrev IsInFirst : List Row → ℕ → ℕ → Type 0
-IsInFirst rows n k = (i : ℕ) × (i < n) × IsTrue (row_at rows i).lower × (entry (row_at rows i).coef k ≢ pos 0)
+IsInFirst rows n k = (i : ℕ) × (i < n) × IsTrue (row_at rows i).lower × (component (row_at rows i).coef k ≢ pos 0)
 
 is_in_lower_decides : (rows : List Row) (n k : ℕ) → Decides (is_in_lower rows n k) (IsInFirst rows n k)
 is_in_lower_decides rows zero k = (λ e. absurd (true≢false (sym e)), λ h. absurd (omega (arith, h.1)))
@@ -25,52 +25,52 @@ is_in_lower_decides rows (suc n) k =
     Decides-like (is_in_lower rows (suc n) k)
     (λ h. elim h [ inl r ↦ (r.0, omega (arith, r.1), r.2, r.3) | inr r ↦ (n, omega arith, r.0, r.1) ])
     (λ r. last r)
-    (Decides-or (is_in_lower rows n k) ((row_at rows n).lower && not (int_eq (entry (row_at rows n).coef k) (pos 0))) (is_in_lower_decides rows n k)
-    (Decides-and (row_at rows n).lower (not (int_eq (entry (row_at rows n).coef k) (pos 0))) (Decides-self (row_at rows n).lower)
-    (Decides-not (int_eq (entry (row_at rows n).coef k) (pos 0)) (Decides-int_eq (entry (row_at rows n).coef k) (pos 0)))))
+    (Decides-or (is_in_lower rows n k) ((row_at rows n).lower && not (int_eq (component (row_at rows n).coef k) (pos 0))) (is_in_lower_decides rows n k)
+    (Decides-and (row_at rows n).lower (not (int_eq (component (row_at rows n).coef k) (pos 0))) (Decides-self (row_at rows n).lower)
+    (Decides-not (int_eq (component (row_at rows n).coef k) (pos 0)) (Decides-int_eq (component (row_at rows n).coef k) (pos 0)))))
   where
-    last : IsInFirst rows (suc n) k → IsInFirst rows n k ⊎ (IsTrue (row_at rows n).lower × (entry (row_at rows n).coef k ≢ pos 0))
+    last : IsInFirst rows (suc n) k → IsInFirst rows n k ⊎ (IsTrue (row_at rows n).lower × (component (row_at rows n).coef k ≢ pos 0))
     last (i, b, low, ne) =
         elim (cases_lt i n) [
           | inl c ↦ inl (i, c, low, ne)
           | inr c ↦ let e : i ≡ n = omega arith in
-              inr (let P : ℕ → Type 0 = λ x. IsTrue (row_at rows x).lower × (entry (row_at rows x).coef k ≢ pos 0) in subst P e (low, ne))
+              inr (let P : ℕ → Type 0 = λ x. IsTrue (row_at rows x).lower × (component (row_at rows x).coef k ≢ pos 0) in subst P e (low, ne))
         ]
 
-is_linking_decides : (p : Program) (k : ℕ) → k < columns p → Decides (is_linking p k) (IsLeader p k × IsInLower p k)
+is_linking_decides : (p : Program) (k : ℕ) → k < columns p → Decides (is_linking p.follower p.rows k) (IsLeader p k × IsInLower p k)
 is_linking_decides p k b =
-    Decides-like (is_linking p k) (λ h. (record { column = b; leads = h.0 }, h.1)) (λ h. (h.0.leads, h.1))
+    Decides-like (is_linking p.follower p.rows k) (λ h. (record { column = b; leads = h.0 }, h.1)) (λ h. (h.0.leads, h.1))
     (Decides-and (not (is_among k p.follower)) (is_in_lower p.rows (length p.rows) k) (Decides-not (is_among k p.follower) (Decides-among k p.follower))
     (is_in_lower_decides p.rows (length p.rows) k))
 
 -- the members of `linking_below`
-member_below : (p : Program) (n k : ℕ) → Contains (linking_below p n) k → (k < n) × (is_linking p k ≡ true)
+member_below : (p : Program) (n k : ℕ) → Contains (linking_below p.follower p.rows n) k → (k < n) × (is_linking p.follower p.rows k ≡ true)
 member_below p zero k m = absurd (omega (arith, m.1))
-member_below p (suc n) k m = by (λ h. member_below p n k h) (is_linking p n) refl m
+member_below p (suc n) k m = by (λ h. member_below p n k h) (is_linking p.follower p.rows n) refl m
   where
-    by : (Contains (linking_below p n) k → (k < n) × (is_linking p k ≡ true)) → (t : Bool) → is_linking p n ≡ t
-        → Contains (cond t (linking_below p n ++ n ∷ []) (linking_below p n)) k → (k < suc n) × (is_linking p k ≡ true)
+    by : (Contains (linking_below p.follower p.rows n) k → (k < n) × (is_linking p.follower p.rows k ≡ true)) → (t : Bool) → is_linking p.follower p.rows n ≡ t
+        → Contains (cond t (linking_below p.follower p.rows n ++ n ∷ []) (linking_below p.follower p.rows n)) k → (k < suc n) × (is_linking p.follower p.rows k ≡ true)
     by rest true e h =
-        elim (Contains-push_cases (linking_below p n) n k h) [
+        elim (Contains-push_cases (linking_below p.follower p.rows n) n k h) [
           | inl c ↦ let r = rest c in (omega (arith, r.0), r.1)
-          | inr same ↦ (omega arith, subst (λ x. is_linking p x ≡ true) same e)
+          | inr same ↦ (omega arith, subst (λ x. is_linking p.follower p.rows x ≡ true) same e)
         ]
     by rest false e h = let r = rest h in (omega (arith, r.0), r.1)
 
-below_member : (p : Program) (n k : ℕ) → k < n → is_linking p k ≡ true → Contains (linking_below p n) k
+below_member : (p : Program) (n k : ℕ) → k < n → is_linking p.follower p.rows k ≡ true → Contains (linking_below p.follower p.rows n) k
 below_member p zero k b t = absurd (omega arith)
-below_member p (suc n) k b t = by (λ c. below_member p n k c t) (is_linking p n) refl
+below_member p (suc n) k b t = by (λ c. below_member p n k c t) (is_linking p.follower p.rows n) refl
   where
-    by : (k < n → Contains (linking_below p n) k) → (u : Bool) → is_linking p n ≡ u → Contains (cond u (linking_below p n ++ n ∷ []) (linking_below p n)) k
+    by : (k < n → Contains (linking_below p.follower p.rows n) k) → (u : Bool) → is_linking p.follower p.rows n ≡ u → Contains (cond u (linking_below p.follower p.rows n ++ n ∷ []) (linking_below p.follower p.rows n)) k
     by rest true e =
         elim (cases_lt k n) [
-          | inl c ↦ Contains-append_left (linking_below p n) (n ∷ []) k (rest c)
-          | inr c ↦ let same : n ≡ k = omega arith in subst (λ x. Contains (linking_below p n ++ n ∷ []) x) same (Contains-push (linking_below p n) n)
+          | inl c ↦ Contains-append_left (linking_below p.follower p.rows n) (n ∷ []) k (rest c)
+          | inr c ↦ let same : n ≡ k = omega arith in subst (λ x. Contains (linking_below p.follower p.rows n ++ n ∷ []) x) same (Contains-push (linking_below p.follower p.rows n) n)
         ]
     by rest false e =
         elim (cases_lt k n) [
           | inl c ↦ rest c
-          | inr c ↦ let same : n ≡ k = omega arith in absurd (true≢false (sym t ∙ subst (λ x. is_linking p x ≡ false) same e))
+          | inr c ↦ let same : n ≡ k = omega arith in absurd (true≢false (sym t ∙ subst (λ x. is_linking p.follower p.rows x ≡ false) same e))
         ]
 
 -- a greater number put at the end of a rising list
@@ -84,12 +84,12 @@ rising_push xs n rise below k b =
           (below (slice_index xs k) (Contains-at xs k (omega arith)))
     ]
 
-linking_rises : (p : Program) (n : ℕ) → IsStrictlyIncreasing (linking_below p n)
+linking_rises : (p : Program) (n : ℕ) → IsStrictlyIncreasing (linking_below p.follower p.rows n)
 linking_rises p zero = λ k b. absurd (omega arith)
-linking_rises p (suc n) = by (is_linking p n) (linking_rises p n)
+linking_rises p (suc n) = by (is_linking p.follower p.rows n) (linking_rises p n)
   where
-    by : (t : Bool) → IsStrictlyIncreasing (linking_below p n) → IsStrictlyIncreasing (cond t (linking_below p n ++ n ∷ []) (linking_below p n))
-    by true rise = rising_push (linking_below p n) n rise (λ k m. (member_below p n k m).0)
+    by : (t : Bool) → IsStrictlyIncreasing (linking_below p.follower p.rows n) → IsStrictlyIncreasing (cond t (linking_below p.follower p.rows n ++ n ∷ []) (linking_below p.follower p.rows n))
+    by true rise = rising_push (linking_below p.follower p.rows n) n rise (λ k m. (member_below p n k m).0)
     by false rise = rise
 
 -- the first element of a rising list is below the others
@@ -119,7 +119,7 @@ same_from_members (x ∷ xs) (y ∷ ys) r s f g =
 
 pub linking_computed : LinkingComputed
 linking_computed p = (
-  λ l. same_from_members p.links (linking_below p (columns p)) (rising_pairs p.links l.rising) (rising_pairs (linking_below p (columns p)) (linking_rises p (columns p)))
+  λ l. same_from_members p.links (linking_below p.follower p.rows (columns p)) (rising_pairs p.links l.rising) (rising_pairs (linking_below p.follower p.rows (columns p)) (linking_rises p (columns p)))
       (λ k m. let h = (l.exact k).0 m in below_member p (columns p) k h.0.column ((is_linking_decides p k h.0.column).1 h))
       (λ k m. let h = member_below p (columns p) k m in (l.exact k).1 ((is_linking_decides p k h.0).0 h.1)),
   λ e. record {

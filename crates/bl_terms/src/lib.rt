@@ -6,6 +6,7 @@
 pub mod bounds;
 pub mod examples;
 pub mod follower_proofs;
+pub mod points;
 pub mod programs;
 pub mod responses;
 pub mod trees;

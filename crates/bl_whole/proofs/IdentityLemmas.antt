@@ -4,14 +4,14 @@ use Rattle.std.specs.Prelude.{ℤ, pos, negsuc, ◌+ℤ◌, ◌*ℤ◌, neg_ℤ,
 use Rattle.std.proofs.Math.IntN.{zero-*ℤ, *ℤ-zero, *ℤ_comm}
 use Rattle.std.proofs.lemmas.Int.{ints}
 use Rattle.std.proofs.lemmas.Bool.{eqb-true}
-use Rattle.bl_whole.specs.Sums.{entry}
+use Rattle.bl_whole.specs.Sums.{component}
 use Rattle.bl_whole.specs.Identities.{Polynomial, variable, constant, plus, minus, times, value, Monomial, same_factors, comes_before, with_factor, with_factors, is_zero, in_front, with_monomial, monomial_sum, multiples, monomial_product, normal_form}
 use Rattle.bl_whole.proofs.Products.{*ℤ-+ℤ, +ℤ-*ℤ, *ℤ_assoc, neg_ℤ-*ℤ, one-*ℤ, *ℤ_one}
 
 -- the product of the factors
 abbrev factors_value : List ℤ → List ℕ → ℤ
 factors_value vs [] = pos 1
-factors_value vs (k ∷ ks) = entry vs k *ℤ factors_value vs ks
+factors_value vs (k ∷ ks) = component vs k *ℤ factors_value vs ks
 
 abbrev monomial_value : List ℤ → Monomial → ℤ
 monomial_value vs m = m.coefficient *ℤ factors_value vs m.factors
@@ -35,19 +35,19 @@ same_from_test (i ∷ is) (j ∷ js) h = by (λ g. same_from_test is js g) (nat_
     by rest true e g = let r = rest g in let s = eqb-true i j e in cc
     by rest false e g = cc
 
-with_factor_value : (vs : List ℤ) (k : ℕ) (js : List ℕ) → factors_value vs (with_factor k js) ≡ entry vs k *ℤ factors_value vs js
+with_factor_value : (vs : List ℤ) (k : ℕ) (js : List ℕ) → factors_value vs (with_factor k js) ≡ component vs k *ℤ factors_value vs js
 with_factor_value vs k [] = refl
 with_factor_value vs k (j ∷ js) = by (with_factor_value vs k js) (nat_le k j)
   where
-    by : factors_value vs (with_factor k js) ≡ entry vs k *ℤ factors_value vs js → (t : Bool) → factors_value vs (cond t (k ∷ j ∷ js) (j ∷ with_factor k js)) ≡ entry vs k *ℤ (entry vs j *ℤ factors_value vs js)
+    by : factors_value vs (with_factor k js) ≡ component vs k *ℤ factors_value vs js → (t : Bool) → factors_value vs (cond t (k ∷ j ∷ js) (j ∷ with_factor k js)) ≡ component vs k *ℤ (component vs j *ℤ factors_value vs js)
     by rest true = refl
-    by rest false = ap (λ x. entry vs j *ℤ x) rest ∙ swap_factors (entry vs j) (entry vs k) (factors_value vs js)
+    by rest false = ap (λ x. component vs j *ℤ x) rest ∙ swap_factors (component vs j) (component vs k) (factors_value vs js)
 
 with_factors_value : (vs : List ℤ) (is js : List ℕ) → factors_value vs (with_factors is js) ≡ factors_value vs is *ℤ factors_value vs js
 with_factors_value vs [] js = sym (one-*ℤ (factors_value vs js))
 with_factors_value vs (i ∷ is) js =
-    with_factor_value vs i (with_factors is js) ∙ ap (λ x. entry vs i *ℤ x) (with_factors_value vs is js)
-    ∙ sym (*ℤ_assoc (entry vs i) (factors_value vs is) (factors_value vs js))
+    with_factor_value vs i (with_factors is js) ∙ ap (λ x. component vs i *ℤ x) (with_factors_value vs is js)
+    ∙ sym (*ℤ_assoc (component vs i) (factors_value vs is) (factors_value vs js))
 
 zero_from_test : (c : ℤ) → is_zero c ≡ true → c ≡ pos 0
 zero_from_test (pos n) h = ap pos (eqb-true n 0 h)
@@ -110,8 +110,8 @@ monomial_product_value vs (m ∷ ms) ns =
 -- a polynomial has the value of its normal form
 normal_form_value : (vs : List ℤ) (p : Polynomial) → sum_value vs (normal_form p) ≡ value vs p
 normal_form_value vs (variable k) =
-    let e = one-*ℤ (entry vs k *ℤ pos 1) in
-    let f = *ℤ_one (entry vs k) in
+    let e = one-*ℤ (component vs k *ℤ pos 1) in
+    let f = *ℤ_one (component vs k) in
     omega (arith, ints)
 normal_form_value vs (constant c) =
     let f = in_front_value vs (record { factors = []; coefficient = c }) [] in

@@ -8,7 +8,7 @@ use Rattle.std.proofs.lemmas.Nat.{mul-le}
 use Rattle.std.proofs.lemmas.Bool.{cases_lt}
 use Rattle.std.proofs.lemmas.List.{get_or_past}
 use Rattle.std.proofs.Math.Nat.{mul-le-mul_right, lt_of_le_of_lt}
-use Rattle.bl_whole.specs.Sums.{entry, sum_below, dot}
+use Rattle.bl_whole.specs.Sums.{component, sum_below, dot}
 use Rattle.bl_whole.specs.Within.{IsWithin, AreWithin, PartialDotsFit}
 
 -- a size is a bound on both sides
@@ -72,7 +72,7 @@ within_from_fits w {z = pos n} h = let b = h.sfits in record { magnitude = omega
 within_from_fits w {z = negsuc n} h = let b = h.sfits in record { magnitude = omega arith }
 
 -- numbers within a size, at every place: past the end stands 0
-pub within_entry : {m : ℕ} {xs : List ℤ} → AreWithin m xs → (k : ℕ) → IsWithin m (entry xs k)
+pub within_entry : {m : ℕ} {xs : List ℤ} → AreWithin m xs → (k : ℕ) → IsWithin m (component xs k)
 within_entry {m} {xs} h k =
     elim (cases_lt k (length xs)) [
       | inl b ↦ h.each k b
@@ -82,13 +82,13 @@ within_entry {m} {xs} h k =
 -- a sum of products by place
 pub within_dot : {m n : ℕ} {cs zs : List ℤ} → AreWithin m cs → AreWithin n zs → IsWithin (length cs * (m * n)) (dot cs zs)
 within_dot {m} {n} {cs} {zs} p q =
-    within_sum_below (m * n) (length cs) (λ k. entry cs k *ℤ entry zs k) (λ k b. within_product (within_entry p k) (within_entry q k))
+    within_sum_below (m * n) (length cs) (λ k. component cs k *ℤ component zs k) (λ k b. within_product (within_entry p k) (within_entry q k))
 
 -- its first places fit a width that all of them fit
 pub dots_fit : (w : Width) {m n : ℕ} {cs zs : List ℤ} → AreWithin m cs → AreWithin n zs → length cs * (m * n) < 2 ^ hbits w → PartialDotsFit w cs zs
 dots_fit w {m} {n} {cs} {zs} p q h = record {
   each = λ k le.
       fits_from_within w
-      (within_sum_below (m * n) k (λ j. entry cs j *ℤ entry zs j) (λ j b. within_product (within_entry p j) (within_entry q j)))
+      (within_sum_below (m * n) k (λ j. component cs j *ℤ component zs j) (λ j b. within_product (within_entry p j) (within_entry q j)))
       (lt_of_le_of_lt (mul-le-mul_right (m * n) le) h);
 }

@@ -1,6 +1,6 @@
 -- Identities of polynomials with whole coefficients, by a normal form that computes.
 use Rattle.std.specs.Prelude.{ℕ, ℤ, pos, negsuc, ◌+ℤ◌, ◌-ℤ◌, ◌*ℤ◌, Bool, true, false, ◌&&◌, List, [], ◌∷◌, if◌then◌else◌, nat_eq, nat_le, nat_lt, ◌≡◌}
-use Rattle.bl_whole.specs.Sums.{entry}
+use Rattle.bl_whole.specs.Sums.{component}
 
 -- a polynomial over numbered variables
 pub data Polynomial : Type 0 where
@@ -12,7 +12,7 @@ pub data Polynomial : Type 0 where
 
 -- its value where variable k is the number at place k of vs
 abbrev pub value : List ℤ → Polynomial → ℤ
-value vs (variable k) = entry vs k
+value vs (variable k) = component vs k
 value vs (constant c) = c
 value vs (plus p q) = value vs p +ℤ value vs q
 value vs (minus p q) = value vs p -ℤ value vs q

@@ -5,7 +5,7 @@ ghost use Rattle.std.specs.Int.{w128};
 ghost use Rattle.bl_whole.specs.Sums.{dot};
 ghost use Rattle.bl_whole.specs.Within.{PartialDotsFit};
 
-use crate::wide::plus_long_product;
+use crate::int128::plus_widening_product;
 
 /// The sum of the products at each place of `coefs`. Takes one multiplication and one addition a place.
 pub fn dot_product(coefs: &[i64], values: &[i64]) -> i128
@@ -15,7 +15,7 @@ pub fn dot_product(coefs: &[i64], values: &[i64]) -> i128
 {
     let mut sum = 0;
     for k in 0..coefs.len() {
-        sum = plus_long_product(sum, coefs[k], values[k]);
+        sum = plus_widening_product(sum, coefs[k], values[k]);
     }
     sum
 }

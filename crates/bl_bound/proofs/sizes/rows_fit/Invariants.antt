@@ -4,4 +4,4 @@ use Rattle.bl_terms.specs.Bounds.{linear_at}
 use Rattle.bl_bound.proofs.sizes.rows_fit.Given as goal
 
 abbrev pub invariant-loop-i : goal.invariant-loop-i
-invariant-loop-i l = (k : ℕ) → k < l.i → AreWithin (2 ^ 36) (linear_at l.rows k).coef × IsWithin (2 ^ 62) (linear_at l.rows k).right
+invariant-loop-i l = (k : ℕ) → k < l.i → AreWithin (2 ^ 36) (linear_at l.rows k).coef × IsWithin (2 ^ 62) (linear_at l.rows k).rhs

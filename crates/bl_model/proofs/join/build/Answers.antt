@@ -5,8 +5,8 @@ use Rattle.std.proofs.lemmas.Int.{to_z-of_z}
 use Rattle.std.specs.Int.{w64}
 use mir.Val.{to_z, of_z, SFits}
 use Rattle.bl_terms.specs.Programs.{Row}
-use Rattle.bl_model.specs.declared.raw.RawColumn.{RawColumn}
-use Rattle.bl_model.specs.declared.raw.RawRow.{RawRow}
+use Rattle.bl_raw.specs.declared.raw.RawColumn.{RawColumn}
+use Rattle.bl_raw.specs.declared.raw.RawRow.{RawRow}
 use Rattle.bl_model.specs.Build.{is_among, link_mark, rows_of, rows_from, places_where, number_at, follower_numbers, program_of}
 use Rattle.bl_model.specs.View.{IsModel}
 use Rattle.bl_model.proofs.JoinLemmas.{marks_where, links_where, program_made}

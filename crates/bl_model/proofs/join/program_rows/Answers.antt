@@ -3,9 +3,9 @@ use Rattle.std.specs.Prelude.{ℤ}
 use Rattle.std.proofs.lemmas.List.{drop_more}
 use Rattle.std.proofs.lemmas.List.Elements.{All-same}
 use Rattle.std.proofs.lemmas.List.FromFn.{length-map-range_with_len}
-use Rattle.bl_whole.specs.Sums.{entry}
-use Rattle.bl_model.specs.declared.raw.RawRow.{RawRow}
-use Rattle.bl_model.specs.Raw.{IsSmall}
+use Rattle.bl_whole.specs.Sums.{component}
+use Rattle.bl_raw.specs.declared.raw.RawRow.{RawRow}
+use Rattle.bl_raw.specs.Raw.{IsSmall}
 use Rattle.bl_model.specs.Build.{coefficients, is_among}
 use Rattle.bl_model.proofs.BuildLemmas.{coefficients_read, IsSmall-coefficients, rows_from_step, mark_at}
 use Rattle.bl_model.proofs.join.program_rows.Goals as goal
@@ -18,7 +18,7 @@ push_sides-requires-clause-coef c =
     let columns = c.args.columns.now in
     let count = length c.args.text_rows.now in
     let below : c.loop-at.at < count = omega arith in
-    let read : c.in_ok-coef.coef.items ≡ map (λ numbers. entry numbers c.loop-at.at) c.in_ok-dense.dense.items = c.in_ok-coef.ensures ∙ ap (map (λ (numbers : List ℤ). entry numbers c.loop-at.at)) c.deref.ensures.value in
+    let read : c.in_ok-coef.coef.items ≡ map (λ numbers. component numbers c.loop-at.at) c.in_ok-dense.dense.items = c.in_ok-coef.ensures ∙ ap (map (λ (numbers : List ℤ). component numbers c.loop-at.at)) c.deref.ensures.value in
     let coef : c.deref-in-loop-at.result.now ≡ coefficients columns c.loop-at.at = c.deref-in-loop-at.ensures.value ∙ coefficients_read columns count c.loop-at.at c.in_ok-dense.dense.items c.in_ok-coef.coef.items below c.in_ok-dense.ensures read in
     All-same IsSmall _ _ coef (IsSmall-coefficients columns count c.loop-at.at c.requires.columns)
 
@@ -28,7 +28,7 @@ loop-at-preserved c =
     let rows = c.args.text_rows.now in
     let at = c.loop-at.at in
     let below : at < length rows = omega arith in
-    let read : c.in_ok-coef.coef.items ≡ map (λ numbers. entry numbers at) c.in_ok-dense.dense.items = c.in_ok-coef.ensures ∙ ap (map (λ (numbers : List ℤ). entry numbers at)) c.deref.ensures.value in
+    let read : c.in_ok-coef.coef.items ≡ map (λ numbers. component numbers at) c.in_ok-dense.dense.items = c.in_ok-coef.ensures ∙ ap (map (λ (numbers : List ℤ). component numbers at)) c.deref.ensures.value in
     let coef : c.deref-in-loop-at.result.now ≡ coefficients columns at = c.deref-in-loop-at.ensures.value ∙ coefficients_read columns (length rows) at c.in_ok-dense.dense.items c.in_ok-coef.coef.items below c.in_ok-dense.ensures read in
     let mark : c.index.result.now ≡ is_among c.args.lower_rows.now at = c.index.ensures ∙ mark_at c.args.lower_rows.now (length rows) at c.in_ok-lower.lower.items _ c.in_ok-lower.ensures below in
     rows_from_step columns c.args.lower_rows.now at c.index-text_rows-at.result (drop at rows) (drop (at + 1) rows) c.loop-at.rows.items c.push_sides.new.rows.items _ _ _ c.loop-at.invariant (drop_more rows at c.index-text_rows-at.result below ∙ ap (λ (r : RawRow). r ∷ drop (at + 1) rows) (sym c.index-text_rows-at.is)) coef mark c.in_ok-push_sides.ensures

@@ -1,5 +1,5 @@
 use Rattle.std.proofs.Common.{◌≡◌, ℕ, length, drop}
-use Rattle.bl_whole.specs.Sums.{entry}
+use Rattle.bl_whole.specs.Sums.{component}
 use Rattle.bl_model.specs.Build.{number_at}
 use Rattle.bl_model.proofs.places.numbers.Given as goal
 
@@ -7,5 +7,5 @@ use Rattle.bl_model.proofs.places.numbers.Given as goal
 abbrev pub invariant-loop-at : goal.invariant-loop-at
 invariant-loop-at l = record {
   count : length l.values.items ≡ l.count;
-  values : (k : ℕ) → entry l.values.items k ≡ number_at (drop l.at l.pairs) k;
+  values : (k : ℕ) → component l.values.items k ≡ number_at (drop l.at l.pairs) k;
 }

@@ -1,7 +1,7 @@
 use Rattle.std.proofs.Common.{◌≡◌}
 use Rattle.std.specs.Prelude.{◌*ℤ◌}
-use Rattle.bl_whole.specs.Sums.{entry, sum_below}
+use Rattle.bl_whole.specs.Sums.{component, sum_below}
 use Rattle.bl_model.proofs.points.dot.Given as goal
 
 abbrev pub invariant-loop-k : goal.invariant-loop-k
-invariant-loop-k l = l.sum ≡ sum_below l.k (λ j. entry l.coef j *ℤ entry l.z j)
+invariant-loop-k l = l.sum ≡ sum_below l.k (λ j. component l.coef j *ℤ component l.z j)

@@ -1,6 +1,6 @@
 use Rattle.std.proofs.Common.{◌≡◌, ◌-◌, map}
 use Rattle.std.specs.List.{All, range_with_len}
-use Rattle.bl_model.specs.Raw.{IsColumn}
+use Rattle.bl_raw.specs.Raw.{IsColumn}
 use Rattle.bl_mps.specs.First.{column_at}
 use Rattle.bl_mps.specs.ColumnViews.{columns_view}
 use Rattle.bl_mps.proofs.raw.raw_columns.Given as goal

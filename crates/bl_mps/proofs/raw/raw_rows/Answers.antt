@@ -1,7 +1,7 @@
 use Rattle.std.proofs.Common.{ap, length, arith}
 use Rattle.std.proofs.lemmas.List.Elements.{All-push}
 use Rattle.std.proofs.lemmas.List.FromFn.{length-map-range_with_len}
-use Rattle.bl_model.specs.Raw.{IsRow}
+use Rattle.bl_raw.specs.Raw.{IsRow}
 use Rattle.bl_mps.specs.First.{row_at}
 use Rattle.bl_mps.specs.RowViews.{rows_view}
 use Rattle.bl_mps.proofs.Tables.{table-more}

@@ -1,6 +1,6 @@
 use Rattle.std.proofs.Common.{◌≡◌, map}
 use Rattle.std.specs.List.{All, range_with_len}
-use Rattle.bl_model.specs.Raw.{IsRow}
+use Rattle.bl_raw.specs.Raw.{IsRow}
 use Rattle.bl_mps.specs.First.{row_at}
 use Rattle.bl_mps.specs.RowViews.{rows_view}
 use Rattle.bl_mps.proofs.raw.raw_rows.Given as goal

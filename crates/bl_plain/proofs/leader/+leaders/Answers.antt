@@ -3,7 +3,7 @@ use Rattle.std.specs.Prelude.{◌≤ℤ◌, ◌+ℤ◌, pos, ℤ, FitsSigned, sl
 use Rattle.std.specs.Int.{w64}
 use mir.Val.{to_z, of_z}
 use Rattle.std.proofs.lemmas.Int.{ints, to_z-of_z}
-use Rattle.bl_whole.specs.Sums.{entry}
+use Rattle.bl_whole.specs.Sums.{component}
 use Rattle.bl_whole.proofs.WithinLemmas.{within_high, within_low}
 use Rattle.bl_terms.specs.Feasible.{BilevelFeasible}
 use Rattle.bl_plain.proofs.WalkLemmas.{In-set, Varies-step, Varies-refl}
@@ -13,10 +13,10 @@ use Rattle.bl_plain.proofs.leader.+leaders.Goals as goal
 pub try_choices-try_leaders-requires : goal.try_choices-try_leaders-requires
 try_choices-try_leaders-requires t c =
     let now = c.loop-value.invariant in
-    let high-in = within_high (c.lo.ensures.model.limits.his c.args.column) in
-    let low-in = within_low (c.lo.ensures.model.limits.his c.args.column) in
-    let hi = ap (λ (xs : List ℤ). entry xs c.args.column) c.hi.ensures.hi in
-    let high : to_z w64 c.loop-value.value-bits ≤ℤ entry c.args.model.now.hi c.args.column = omega (arith, ints, c.loop-value-test.true) in
+    let high-in = within_high (c.lo.ensures.model.limits.upper_bounds c.args.column) in
+    let low-in = within_low (c.lo.ensures.model.limits.upper_bounds c.args.column) in
+    let hi = ap (λ (xs : List ℤ). component xs c.args.column) c.hi.ensures.hi in
+    let high : to_z w64 c.loop-value.value-bits ≤ℤ component c.args.model.now.hi c.args.column = omega (arith, ints, c.loop-value-test.true) in
     (search rules, (In-set c.args.model.now c.loop-value.z c.args.column (to_z w64 c.loop-value.value-bits) now.inside c.requires.column now.from high, (c.requires.rest, now.room)))
 
 pub try_choices-loop-value-preserved : goal.try_choices-loop-value-preserved
@@ -26,11 +26,11 @@ try_choices-loop-value-preserved t c =
     let rest = c.args.rest.now ++ p.follower in
     let x = to_z w64 c.loop-value.value-bits in
     let now = c.loop-value.invariant in
-    let high-in = within_high (c.lo.ensures.model.limits.his column) in
-    let low-in = within_low (c.lo.ensures.model.limits.his column) in
-    let hi = ap (λ (xs : List ℤ). entry xs column) c.hi.ensures.hi in
-    let high : x ≤ℤ entry p.hi column = omega (arith, ints, c.loop-value-test.true) in
-    let low-from = within_low (c.lo.ensures.model.limits.los column) in
+    let high-in = within_high (c.lo.ensures.model.limits.upper_bounds column) in
+    let low-in = within_low (c.lo.ensures.model.limits.upper_bounds column) in
+    let hi = ap (λ (xs : List ℤ). component xs column) c.hi.ensures.hi in
+    let high : x ≤ℤ component p.hi column = omega (arith, ints, c.loop-value-test.true) in
+    let low-from = within_low (c.lo.ensures.model.limits.lower_bounds column) in
     let from = now.from in
     let next : to_z w64 (of_z w64 (x +ℤ pos 1)) ≡ x +ℤ pos 1 = omega (arith, ints) in
     let after = Varies-step p column rest c.args.z.now c.loop-value.z c.try_leaders.new.z x now.inside c.requires.column now.from high now.moved c.try_leaders.ensures.point in
@@ -44,9 +44,9 @@ try_choices-loop-value-preserved t c =
 
 pub try_choices-returns-clause-best : goal.try_choices-returns-clause-best
 try_choices-returns-clause-best t c =
-    let high-in = within_high (c.lo.ensures.model.limits.his c.args.column) in
-    let low-in = within_low (c.lo.ensures.model.limits.his c.args.column) in
-    let hi = ap (λ (xs : List ℤ). entry xs c.args.column) c.hi.ensures.hi in
+    let high-in = within_high (c.lo.ensures.model.limits.upper_bounds c.args.column) in
+    let low-in = within_low (c.lo.ensures.model.limits.upper_bounds c.args.column) in
+    let hi = ap (λ (xs : List ℤ). component xs c.args.column) c.hi.ensures.hi in
     Seeks-end c.args.model.now c.args.column (c.args.rest.now ++ c.args.model.now.follower) c.args.z.now (BilevelFeasible c.args.model.now) _ c.args.best.now c.loop-value.best (omega (arith, ints, c.loop-value-test.false)) c.loop-value.invariant.best
 
 pub try_choices-loop-value-init : goal.try_choices-loop-value-init
@@ -55,7 +55,7 @@ try_choices-loop-value-init t c =
     let column = c.args.column in
     let cs = c.args.rest.now ++ p.follower in
     let fits : FitsSigned w64 (slice_index_or c.lo.result.now column (pos 0)) = search rules in
-    let start : to_z w64 (of_z w64 (slice_index_or c.lo.result.now column (pos 0))) ≡ entry p.lo column = to_z-of_z w64 (slice_index_or c.lo.result.now column (pos 0)) fits ∙ ap (λ (xs : List ℤ). entry xs column) c.lo.ensures.lo in
+    let start : to_z w64 (of_z w64 (slice_index_or c.lo.result.now column (pos 0))) ≡ component p.lo column = to_z-of_z w64 (slice_index_or c.lo.result.now column (pos 0)) fits ∙ ap (λ (xs : List ℤ). component xs column) c.lo.ensures.lo in
     record {
       inside = c.requires.point;
       moved = Varies-refl p (column ∷ cs) c.args.z.now (choices-below p column c.args.rest.now c.lo.ensures.model c.requires.column c.requires.rest) c.requires.point;

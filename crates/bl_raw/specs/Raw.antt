@@ -1,18 +1,19 @@
--- What a model's two texts say, and the limits that they keep.
+-- Trusted. What a model's two texts say, and the limits that they keep.
 use Rattle.std.specs.Prelude.{◌≡◌, ℕ, ◌<◌, ◌≤◌, ◌⊎◌, List, length, map, ℤ, pos, negsuc, ◌≤ℤ◌, unsigned_abs, ◌≢◌, None, Some, IfSome, IsSome, All, AllPairs}
 use Rattle.std.specs.List.Sorted.{IsStrictlyIncreasing}
-use Rattle.bl_model.specs.declared.raw.RawRow.{RawRow}
-use Rattle.bl_model.specs.declared.raw.RawColumn.{RawColumn}
-use Rattle.bl_model.specs.declared.raw.RawMps.{RawMps}
-use Rattle.bl_model.specs.declared.raw.RawAux.{RawAux}
+use Rattle.bl_limits.specs.declared.TheConstants.{MAX_COLUMNS, MAX_TEXT_ROWS, MAX_NUMBER, MAX_RHS}
+use Rattle.bl_raw.specs.declared.raw.RawRow.{RawRow}
+use Rattle.bl_raw.specs.declared.raw.RawColumn.{RawColumn}
+use Rattle.bl_raw.specs.declared.raw.RawMps.{RawMps}
+use Rattle.bl_raw.specs.declared.raw.RawAux.{RawAux}
 
--- a coefficient, a cost or a bound is at most 10^7 in magnitude
+-- a coefficient, a cost or a bound is small enough
 abbrev pub IsSmall : ℤ → Type 0
-IsSmall z = unsigned_abs z ≤ 10000000
+IsSmall z = unsigned_abs z ≤ MAX_NUMBER
 
--- a side is at most 2·10^15 in magnitude
+-- a side of a row is small enough
 abbrev pub IsSide : ℤ → Type 0
-IsSide z = unsigned_abs z ≤ 2000000000000000
+IsSide z = unsigned_abs z ≤ MAX_RHS
 
 -- a row has a side, and a lower side isn't above an upper one
 pub record IsRow (row : RawRow) : Type 0 where
@@ -31,10 +32,10 @@ pub record IsColumn (rows : ℕ) (column : RawColumn) : Type 0 where
   pub within : All (λ e. e.0 < rows) column.entries
   pub small : All (λ e. IsSmall e.1) column.entries
 
--- a model of at most 120 columns and 200 rows, each as above
-pub record KeepsLimits (mps : RawMps) : Type 0 where
-  pub column_count : length mps.columns ≤ 120
-  pub row_count : length mps.rows ≤ 200
+-- what the text of a model says: few enough columns and rows, each as above
+pub record IsRawModel (mps : RawMps) : Type 0 where
+  pub column_count : length mps.columns ≤ MAX_COLUMNS
+  pub row_count : length mps.rows ≤ MAX_TEXT_ROWS
   pub rows : All IsRow mps.rows
   pub columns : All (IsColumn (length mps.rows)) mps.columns
 

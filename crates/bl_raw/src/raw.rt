@@ -1,6 +1,6 @@
 //! What a model's two texts say, before they are joined.
 
-use bl_list::Listed;
+use crate::listed::Listed;
 
 /// The bytes of a name.
 pub type Name = Listed<u8>;

@@ -37,16 +37,16 @@ pub fn plus_product(sum: i128, a: i128, b: i128) -> i128
 }
 
 /// The product of two numbers of 64 bits, which always fits.
-pub fn long_product(a: i64, b: i64) -> i128
+pub fn widening_product(a: i64, b: i64) -> i128
     ensures { result ≡ a *ℤ b }
 {
     a as i128 * b as i128
 }
 
 /// A running sum with a further product of two numbers of 64 bits.
-pub fn plus_long_product(sum: i128, a: i64, b: i64) -> i128
+pub fn plus_widening_product(sum: i128, a: i64, b: i64) -> i128
     requires { FitsSigned w128 (sum +ℤ a *ℤ b) }
     ensures { result ≡ sum +ℤ a *ℤ b }
 {
-    plus(sum, long_product(a, b))
+    plus(sum, widening_product(a, b))
 }
