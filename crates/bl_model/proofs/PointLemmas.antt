@@ -2,6 +2,7 @@
 use Rattle.std.proofs.Common.{◌<◌, ◌≤◌, length, arith, sym, ◌∙◌}
 use Rattle.std.specs.Prelude.{ℤ, List}
 use Rattle.std.proofs.lemmas.Int.{ints}
+use Rattle.bl_limits.specs.declared.TheConstants.{MAX_COLUMNS, MAX_NUMBER}
 use Rattle.bl_whole.specs.Sums.{component}
 use Rattle.bl_whole.specs.Within.{AreWithin}
 use Rattle.bl_whole.proofs.WithinLemmas.{within_low, within_high, within_from_bounds}
@@ -10,7 +11,7 @@ use Rattle.bl_model.specs.View.{IsModel}
 use Rattle.bl_model.specs.Points.{AreShort}
 
 -- a point of the box has small numbers
-pub InBox-within : (p : Program) (z : List ℤ) → IsModel p → InBox p z → AreWithin 10000000 z
+pub InBox-within : (p : Program) (z : List ℤ) → IsModel p → InBox p z → AreWithin MAX_NUMBER z
 InBox-within p z m is = record {
   each = λ k below.
       let at : k < columns p = omega (arith, below, is.columns) in
@@ -18,12 +19,12 @@ InBox-within p z m is = record {
       let high = within_high (m.limits.upper_bounds k) in
       let least = is.least k at in
       let most = is.most k at in
-      within_from_bounds 10000000 (component z k) (omega (arith, ints)) (omega (arith, ints));
+      within_from_bounds MAX_NUMBER (component z k) (omega (arith, ints)) (omega (arith, ints));
 }
 
 -- and there are few of them
-pub In-few : (p : Program) (z : List ℤ) → IsModel p → InBox p z → length z ≤ 120
-In-few p z m is = omega (arith, is.columns, m.limits.few_columns)
+pub InBox-few : (p : Program) (z : List ℤ) → IsModel p → InBox p z → length z ≤ MAX_COLUMNS
+InBox-few p z m is = omega (arith, is.columns, m.limits.few_columns)
 
 -- the rows fit the point
 pub rows-short : (p : Program) (z : List ℤ) → IsModel p → InBox p z → AreShort (length z) p.rows

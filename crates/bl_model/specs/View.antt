@@ -1,4 +1,4 @@
--- The program that a `Bilevel` is.
+-- Trusted. The program that a `Bilevel` is.
 use Rattle.bl_terms.specs.Programs.{Program, IsProgram, KeepsLimits}
 use Rattle.bl_model.specs.declared.bilevel.Bilevel.TheInside.{Inside}
 
@@ -13,6 +13,7 @@ view_of a = record {
   follower = a.follower.items;
   links = a.links.items;
   sense = a.sense;
+  leader_sense = a.leader_sense;
 }
 
 -- a program whose parts fit together, within the limits

@@ -1,12 +1,12 @@
 //! The bilevel program.
 
-use crate::points::{dot, lies_in, meets_all, meets_marked};
+use crate::points::{dot, in_sense, lies_in, meets_all, meets_marked};
 use crate::row::BRow;
 use std::marker::Model;
 
 /// A bilevel program: the leader minimises `cost` and the follower `follower_cost` over integer
 /// points from `lo` to `hi` in each column that meet the rows `coef·z <= right`. It has at most
-/// 120 columns and 400 rows.
+/// `MAX_COLUMNS` columns and `MAX_ROWS` rows.
 #[derive(Debug, Drop)]
 pub struct Bilevel {
     pub(crate) lo: Vec<i64>,
@@ -17,6 +17,7 @@ pub struct Bilevel {
     pub(crate) follower: Vec<u32>,
     pub(crate) links: Vec<u32>,
     pub(crate) sense: i64,
+    pub(crate) leader_sense: i64,
 }
 
 impl Model for Bilevel {
@@ -35,7 +36,7 @@ impl Model for Bilevel {
 
 impl Bilevel {
     ghost use Rattle.std.specs.Prelude.{◌≡◌, ◌↔◌, IsTrue};
-    ghost use Rattle.bl_terms.specs.Programs.{InBox, MeetsRows, MeetsLowerRows, cost_at, follower_at};
+    ghost use Rattle.bl_terms.specs.Programs.{InBox, MeetsRows, MeetsLowerRows, cost_at, value_at, follower_at};
     ghost use Rattle.bl_model.specs.View.{IsModel};
 
     /// The least number of each column.
@@ -54,7 +55,7 @@ impl Bilevel {
         &self.hi
     }
 
-    /// The rows, in the order of the text: of each row there the upper side and then the lower one.
+    /// The rows, in the order of the text: of each row there the right-hand side and then the left-hand one.
     pub fn rows(&self) -> &[BRow]
         ensures rows { result.now ≡ self.now.rows }
         ensures model { IsModel self.now }
@@ -95,12 +96,20 @@ impl Bilevel {
         &self.links
     }
 
-    /// 1 where the text's follower minimises, and -1 where he maximises.
+    /// 1 where the text's follower minimises, and -1 where it maximises.
     pub fn sense(&self) -> i64
         ensures sense { result ≡ self.now.sense }
         ensures model { IsModel self.now }
     {
         self.sense
+    }
+
+    /// 1 where the text's leader minimises, and -1 where it maximises.
+    pub fn leader_sense(&self) -> i64
+        ensures leader_sense { result ≡ self.now.leader_sense }
+        ensures model { IsModel self.now }
+    {
+        self.leader_sense
     }
 
     /// Whether the point lies in the box: one number for each column, each in its range.
@@ -126,12 +135,20 @@ impl Bilevel {
         meets_marked(&self.rows, z)
     }
 
-    /// The leader's cost of a point of the box.
+    /// The leader's cost of a point of the box, as it is minimised.
     pub fn cost_of(&self, z: &[i64]) -> i64
         requires { InBox self.now z.now }
         ensures { result ≡ cost_at self.now z.now }
     {
         dot(&self.cost, z)
+    }
+
+    /// The leader's cost of a point of the box, in the sense of the text.
+    pub fn value_of(&self, z: &[i64]) -> i64
+        requires { InBox self.now z.now }
+        ensures { result ≡ value_at self.now z.now }
+    {
+        in_sense(dot(&self.cost, z), self.leader_sense)
     }
 
     /// The follower's cost of a point of the box, as it is minimised.

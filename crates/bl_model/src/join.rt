@@ -1,16 +1,18 @@
 //! The program that is made of the two texts.
 
-ghost use Rattle.std.specs.Prelude.{◌≡◌, ◌++◌, ◌<◌, not, ◌&&◌, neg_ℤ, ◌*ℤ◌, length, map, All, IfOk, IfSome, OnOk};
+ghost use Rattle.std.specs.Prelude.{◌≡◌, ◌++◌, ◌<◌, ◌^◌, not, ◌&&◌, neg_ℤ, pos, ◌*ℤ◌, length, map, All, IfOk, IfSome, OnOk};
 ghost use Rattle.bl_whole.specs.Sums.{component};
 ghost use Rattle.std.specs.List.{range_with_len};
+ghost use Rattle.std.specs.Ordering.{int_eq};
 ghost use Rattle.bl_raw.specs.Raw.{IsRawModel, FitsModel, IsSmall, IsSide, IsSense, IsRow, IsColumn};
-ghost use Rattle.bl_model.specs.Build.{dense_column, upper_side, lower_side, rows_from, follower_numbers, number_at, is_in_lower, link_mark, program_of};
+ghost use Rattle.bl_terms.specs.Points.{is_among};
+ghost use Rattle.bl_terms.specs.Programs.{is_in_lower, is_linking, places_where};
+ghost use Rattle.bl_model.specs.Build.{dense_column, rhs_row, lhs_row, rows_from, follower_numbers, number_for, program_of};
 
 use crate::bilevel::Bilevel;
 use crate::places::{marked, marks, numbers};
-use crate::raw::{RawAux, RawColumn, RawMps, RawRow};
 use crate::row::BRow;
-use bl_raw::Listed;
+use bl_raw::{Listed, RawAux, RawColumn, RawMps, RawRow};
 use std::alloc::{AllocError, Global};
 
 // The coefficients of each column, one for each row.
@@ -55,14 +57,14 @@ fn negated(alloc: Global, coef: &[i64]) -> Result<Vec<i64>, AllocError>
     Ok(negated)
 }
 
-fn push_upper_side(
+fn push_rhs_row(
     alloc: Global,
     rows: &mut Vec<BRow>,
     coef: &[i64],
     lower: bool,
     hi: Option<i64>,
 ) -> Result<(), AllocError>
-    ensures { OnOk result (rows.new.items ≡ rows.old.items ++ upper_side coef.now lower hi) }
+    ensures { OnOk result (rows.new.items ≡ rows.old.items ++ rhs_row coef.now lower hi) }
 {
     if let Some(right) = hi {
         let coef = coef.to_vec(alloc)?;
@@ -71,7 +73,7 @@ fn push_upper_side(
     Ok(())
 }
 
-fn push_lower_side(
+fn push_lhs_row(
     alloc: Global,
     rows: &mut Vec<BRow>,
     coef: &[i64],
@@ -80,7 +82,7 @@ fn push_lower_side(
 ) -> Result<(), AllocError>
     requires lo { IfSome lo IsSide }
     requires coef { All IsSmall coef.now }
-    ensures { OnOk result (rows.new.items ≡ rows.old.items ++ lower_side coef.now lower lo) }
+    ensures { OnOk result (rows.new.items ≡ rows.old.items ++ lhs_row coef.now lower lo) }
 {
     if let Some(lo) = lo {
         let coef = negated(alloc, coef)?;
@@ -93,7 +95,7 @@ fn push_lower_side(
     Ok(())
 }
 
-// Adds the rows of a row of the text: its upper side's and then its lower side's.
+// Adds the rows of a row of the text: that of its right-hand side and then that of its left-hand side.
 fn push_sides(
     alloc: Global,
     rows: &mut Vec<BRow>,
@@ -103,10 +105,10 @@ fn push_sides(
 ) -> Result<(), AllocError>
     requires coef { All IsSmall coef.now }
     requires row { IsRow row.now }
-    ensures { OnOk result (rows.new.items ≡ rows.old.items ++ (upper_side coef.now lower row.now.hi ++ lower_side coef.now lower row.now.lo)) }
+    ensures { OnOk result (rows.new.items ≡ rows.old.items ++ (rhs_row coef.now lower row.now.hi ++ lhs_row coef.now lower row.now.lo)) }
 {
-    push_upper_side(alloc, rows, coef, lower, row.hi)?;
-    push_lower_side(alloc, rows, coef, lower, row.lo)
+    push_rhs_row(alloc, rows, coef, lower, row.hi)?;
+    push_lhs_row(alloc, rows, coef, lower, row.lo)
 }
 
 // The rows of the program, in the order of the text.
@@ -131,7 +133,7 @@ fn program_rows(
     Ok(rows)
 }
 
-// A cost of the follower, turned round where he maximises.
+// A cost of the follower, negated where it maximises.
 fn minimised(cost: i64, sense: i64) -> i64
     requires cost { IsSmall cost }
     requires sense { IsSense sense }
@@ -156,29 +158,64 @@ fn follower_pairs(alloc: Global, aux: &RawAux) -> Result<Vec<(u32, i64)>, AllocE
     Ok(pairs)
 }
 
-// Whether some row of the follower has a coefficient other than 0 in the column.
-fn stands_in_lower(rows: &[BRow], column: usize) -> bool
-    ensures { result ≡ is_in_lower rows.now column }
+// Whether the row is the follower's and has a coefficient other than 0 in the column.
+fn stands_in(row: &BRow, column: usize) -> bool
+    ensures { result ≡ (row.now.lower && not (int_eq (component row.now.coef column) (pos 0))) }
 {
-    rows.iter().any(|row| row.lower && row.coef.get(column).copied().unwrap_or(0) != 0)
+    row.lower && row.coef.get(column).copied().unwrap_or(0) != 0
 }
 
-// Whether a column of the leader, or not of the follower, stands in a row of the follower.
-fn is_linking(follows: bool, rows: &[BRow], column: usize) -> bool
-    ensures { result ≡ (not follows && is_in_lower rows.now column) }
+// Whether some row of the follower has a coefficient other than 0 in the column.
+fn stands_in_lower(rows: &[BRow], column: usize) -> bool
+    ensures { result ≡ is_in_lower rows.now (length rows.now) column }
+{
+    let mut stands = false;
+    for i in 0..rows.len() {
+        stands = stands || stands_in(&rows[i], column);
+    }
+    stands
+}
+
+// Whether a column links: it isn't the follower's, and stands in a row of the follower.
+fn links(follows: bool, rows: &[BRow], column: usize) -> bool
+    ensures { result ≡ (not follows && is_in_lower rows.now (length rows.now) column) }
 {
     !follows && stands_in_lower(rows, column)
 }
 
-// The marks of the linking columns.
-fn link_marks(alloc: Global, is_follower: &[bool], rows: &[BRow]) -> Result<Vec<bool>, AllocError>
-    ensures { IfOk result (λ marks. marks.items ≡ map (link_mark is_follower.now rows.now) (range_with_len 0 (length is_follower.now))) }
+// The follower's columns, in rising order.
+fn follower_places(
+    alloc: Global,
+    column_count: usize,
+    follower: &[u32],
+) -> Result<Vec<u32>, AllocError>
+    requires columns { All (λ c. c < column_count) follower.now }
+    requires few { column_count < 2 ^ 32 }
+    ensures { IfOk result (λ places. places.items ≡ places_where (λ k. is_among k follower.now) column_count) }
 {
-    let mut marks = Vec::with_capacity(alloc, is_follower.len())?;
-    for (column, follows) in is_follower.iter().enumerate() {
-        marks.push(is_linking(*follows, rows, column))?;
+    let is_follower = marks(alloc, column_count, follower)?;
+    marked(alloc, &is_follower)
+}
+
+// The linking columns, in rising order.
+fn link_places(
+    alloc: Global,
+    column_count: usize,
+    follower: &[u32],
+    rows: &[BRow],
+) -> Result<Vec<u32>, AllocError>
+    requires columns { All (λ c. c < column_count) follower.now }
+    requires few { column_count < 2 ^ 32 }
+    ensures { IfOk result (λ places. places.items ≡ places_where (is_linking follower.now rows.now) column_count) }
+{
+    let is_follower = marks(alloc, column_count, follower)?;
+    let mut places = Vec::new(alloc);
+    for column in 0..column_count {
+        if links(is_follower[column], rows, column) {
+            places.push(column as u32)?;
+        }
     }
-    Ok(marks)
+    Ok(places)
 }
 
 // The follower's cost of each column.
@@ -187,7 +224,7 @@ fn follower_costs(alloc: Global, column_count: usize, aux: &RawAux) -> Result<Ve
     requires count { length aux.now.costs ≡ length aux.now.columns }
     requires costs { All IsSmall aux.now.costs }
     requires sense { IsSense aux.now.sense }
-    ensures { IfOk result (λ costs. costs.items ≡ map (number_at (follower_numbers aux.now)) (range_with_len 0 column_count)) }
+    ensures { IfOk result (λ costs. costs.items ≡ map (number_for (follower_numbers aux.now)) (range_with_len 0 column_count)) }
 {
     let pairs = follower_pairs(alloc, aux)?;
     numbers(alloc, column_count, &pairs)
@@ -211,27 +248,31 @@ fn costs(alloc: Global, columns: &[RawColumn]) -> Result<Vec<i64>, AllocError>
     columns.iter().map(|column| column.cost).collect(alloc)
 }
 
-/// Makes the program that the two texts describe: for each row of the MPS text in order its upper
-/// side as `coef·z <= hi` and then its lower side as `-coef·z <= -lo`, the follower's costs turned
-/// round where he maximises, and the linking columns, which are those of the leader that stand in
-/// a row of the follower.
+/// Makes the program that the two texts describe: for each row of the MPS text in order its
+/// right-hand side as `coef·z <= hi` and then its left-hand side as `-coef·z <= -lo`, the
+/// follower's costs negated where it maximises, and the linking columns, which are those of the
+/// leader that stand in a row of the follower.
 pub fn build(alloc: Global, mps: &RawMps, aux: &RawAux) -> Result<Bilevel, AllocError>
     requires mps { IsRawModel mps.now }
     requires aux { FitsModel (length mps.now.columns) (length mps.now.rows) aux.now }
     ensures { IfOk result (λ model. model ≡ program_of mps.now aux.now) }
 {
     let columns = mps.columns.as_slice();
-    let rows = program_rows(alloc, columns, mps.rows.as_slice(), aux.rows.as_slice())?;
-    let is_follower = marks(alloc, columns.len(), aux.columns.as_slice())?;
-    let is_link = link_marks(alloc, &is_follower, &rows)?;
+    let count = columns.len();
+    let text_rows = mps.rows.as_slice();
+    let follower = aux.columns.as_slice();
+    let lower_rows = aux.rows.as_slice();
+    let rows = program_rows(alloc, columns, text_rows, lower_rows)?;
+    let links = link_places(alloc, count, follower, &rows)?;
     Ok(Bilevel {
         lo: lows(alloc, columns)?,
         hi: highs(alloc, columns)?,
         rows,
         cost: costs(alloc, columns)?,
-        follower_cost: follower_costs(alloc, columns.len(), aux)?,
-        follower: marked(alloc, &is_follower)?,
-        links: marked(alloc, &is_link)?,
+        follower_cost: follower_costs(alloc, count, aux)?,
+        follower: follower_places(alloc, count, follower)?,
+        links,
         sense: aux.sense,
+        leader_sense: 1,
     })
 }

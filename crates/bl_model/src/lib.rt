@@ -5,7 +5,6 @@ mod bilevel;
 mod join;
 mod places;
 mod points;
-
 mod row;
 #[cfg(test)]
 mod tests;

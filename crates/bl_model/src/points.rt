@@ -1,11 +1,12 @@
-//! Points against rows and ranges. Sums stay below 2^54: 120 products of two numbers of magnitude
-//! at most 10^7.
+//! Points against rows and ranges. Sums stay below 2^54: `MAX_COLUMNS` products of two numbers of
+//! magnitude at most `MAX_NUMBER`.
 
-ghost use Rattle.std.specs.Prelude.{◌≡◌, ◌↔◌, ◌≤◌, length, IsTrue};
+ghost use Rattle.std.specs.Prelude.{◌≡◌, ◌↔◌, ◌≤◌, ◌*◌, ◌*ℤ◌, length, IsTrue};
 ghost use Rattle.bl_whole.specs.Sums.{dot};
-ghost use Rattle.bl_whole.specs.Within.{AreWithin};
+ghost use Rattle.bl_limits.specs.declared.TheConstants.{MAX_COLUMNS, MAX_NUMBER};
+ghost use Rattle.bl_whole.specs.Within.{IsWithin, AreWithin};
 ghost use Rattle.bl_terms.specs.Points.{InArea, Meets};
-ghost use Rattle.bl_terms.specs.Programs.{inequality};
+ghost use Rattle.bl_terms.specs.Programs.{inequality, IsSense};
 ghost use Rattle.bl_model.specs.Points.{MeetsAll, MeetsMarked, AreShort, IsShort};
 
 use crate::row::BRow;
@@ -13,10 +14,10 @@ use bl_whole::int64::plus_product;
 
 /// The sum of the products at each place.
 pub(crate) fn dot(coef: &[i64], z: &[i64]) -> i64
-    requires few { length coef.now ≤ 120 }
+    requires few { length coef.now ≤ MAX_COLUMNS }
     requires places { length z.now ≡ length coef.now }
-    requires coef { AreWithin 10000000 coef.now }
-    requires z { AreWithin 10000000 z.now }
+    requires coef { AreWithin MAX_NUMBER coef.now }
+    requires z { AreWithin MAX_NUMBER z.now }
     ensures { result ≡ dot coef.now z.now }
 {
     let mut sum = 0;
@@ -24,6 +25,15 @@ pub(crate) fn dot(coef: &[i64], z: &[i64]) -> i64
         sum = plus_product(sum, coef[k], z[k]);
     }
     sum
+}
+
+/// A cost in the sense in which it was given: negated where that is to be maximised.
+pub(crate) fn in_sense(cost: i64, sense: i64) -> i64
+    requires cost { IsWithin (MAX_COLUMNS * (MAX_NUMBER * MAX_NUMBER)) cost }
+    requires sense { IsSense sense }
+    ensures { result ≡ sense *ℤ cost }
+{
+    sense * cost
 }
 
 /// Whether each number of the point lies in its range.
@@ -44,8 +54,8 @@ pub(crate) fn lies_in(lo: &[i64], hi: &[i64], z: &[i64]) -> bool
 
 fn meets(row: &BRow, z: &[i64]) -> bool
     requires row { IsShort (length z.now) row.now }
-    requires few { length z.now ≤ 120 }
-    requires z { AreWithin 10000000 z.now }
+    requires few { length z.now ≤ MAX_COLUMNS }
+    requires z { AreWithin MAX_NUMBER z.now }
     ensures { IsTrue result ↔ Meets (inequality row.now) z.now }
 {
     dot(&row.coef, z) <= row.right
@@ -54,8 +64,8 @@ fn meets(row: &BRow, z: &[i64]) -> bool
 /// Whether the point meets every row.
 pub(crate) fn meets_all(rows: &[BRow], z: &[i64]) -> bool
     requires rows { AreShort (length z.now) rows.now }
-    requires few { length z.now ≤ 120 }
-    requires z { AreWithin 10000000 z.now }
+    requires few { length z.now ≤ MAX_COLUMNS }
+    requires z { AreWithin MAX_NUMBER z.now }
     ensures { IsTrue result ↔ MeetsAll rows.now z.now }
 {
     for row in rows {
@@ -69,8 +79,8 @@ pub(crate) fn meets_all(rows: &[BRow], z: &[i64]) -> bool
 /// Whether the point meets every row that is marked as the follower's.
 pub(crate) fn meets_marked(rows: &[BRow], z: &[i64]) -> bool
     requires rows { AreShort (length z.now) rows.now }
-    requires few { length z.now ≤ 120 }
-    requires z { AreWithin 10000000 z.now }
+    requires few { length z.now ≤ MAX_COLUMNS }
+    requires z { AreWithin MAX_NUMBER z.now }
     ensures { IsTrue result ↔ MeetsMarked rows.now z.now }
 {
     for row in rows {

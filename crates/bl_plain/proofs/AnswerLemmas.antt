@@ -1,12 +1,12 @@
 -- What the walk of the whole box answers.
-use Rattle.std.proofs.Common.{◌≡◌, ℕ, ◌<◌, List, ◌++◌, refl, ap, ⊎_elim, arith}
+use Rattle.std.proofs.Common.{◌≡◌, ℕ, ◌<◌, List, ◌++◌, refl, sym, ap, ⊎_elim, arith}
 use Rattle.std.specs.Prelude.{All, ℤ, pos, Contains, Option, None, Some}
 use Rattle.std.proofs.lemmas.Bool.{cases_lt}
 use Rattle.std.proofs.lemmas.Int.{ints}
 use Rattle.std.proofs.lemmas.List.{get_or_past}
 use Rattle.std.proofs.lemmas.List.Elements.{All-contains, All-append}
 use Rattle.std.specs.Option.{option_map}
-use Rattle.bl_terms.specs.Programs.{Program, InBox, columns, cost_at}
+use Rattle.bl_terms.specs.Programs.{Program, InBox, columns, cost_at, value_at}
 use Rattle.bl_terms.specs.Feasible.{BilevelFeasible, Optimal}
 use Rattle.bl_model.specs.View.{IsModel}
 use Rattle.bl_plain.specs.Walk.{Varies, Best, Improves, Among, IsAnswer, optimum_of}
@@ -29,8 +29,8 @@ varies_from_In p cs z below all is = record {
 }
 
 -- the best of all bilevel feasible points is optimal
-pub answer_found : (p : Program) (cs : List ℕ) (point : List ℤ) (b : Best) → IsModel p → All (λ c. c < columns p) cs → ((k : ℕ) → k < columns p → Contains (cs ++ p.follower) k) → Improves p (Among p (cs ++ p.follower) p.lo (BilevelFeasible p)) (record { point = point; value = None }) b → IsAnswer p (optimum_of b)
-answer_found p cs point b m below all h = by b.value refl
+pub answer_found : (p : Program) (cs : List ℕ) (point : List ℤ) (b : Best) → IsModel p → All (λ c. c < columns p) cs → ((k : ℕ) → k < columns p → Contains (cs ++ p.follower) k) → Improves p (Among p (cs ++ p.follower) p.lo (BilevelFeasible p)) (record { point = point; cost = None }) b → IsAnswer p (optimum_of b)
+answer_found p cs point b m below all h = by b.cost refl
   where
     within : All (λ c. c < columns p) (cs ++ p.follower)
     within = All-append (λ c. c < columns p) cs p.follower below (follower-below p m)
@@ -38,17 +38,17 @@ answer_found p cs point b m below all h = by b.value refl
     varies : (z : List ℤ) → BilevelFeasible p z → Varies p (cs ++ p.follower) p.lo z
     varies z f = varies_from_In p (cs ++ p.follower) z within all f.inside
 
-    found : (v : ℤ) → b.value ≡ Some v → Optimal p b.point v
+    found : (v : ℤ) → b.cost ≡ Some v → Optimal p b.point (value_at p b.point) × (v ≡ cost_at p b.point)
     found v e = ⊎_elim
-        (λ same. let none = ap (λ (a : Best). a.value) same in cc)
+        (λ same. let none = ap (λ (a : Best). a.cost) same in cc)
         (λ w.
-        let value : cost_at p b.point ≡ v = let s = w.1 in cc in
-        record { feasible = w.0.1; value = value; least = λ z f. rw e at (h.bound z (varies z f, f)) })
+        let cost : cost_at p b.point ≡ v = let s = w.1 in cc in
+        (record { feasible = w.0.1; value = refl; least = λ z f. rw cost (rw e at (h.bound z (varies z f, f))) }, sym cost))
         h.source
 
-    none_found : b.value ≡ None → (z : List ℤ) → ¬ BilevelFeasible p z
+    none_found : b.cost ≡ None → (z : List ℤ) → ¬ BilevelFeasible p z
     none_found e z f = elim (rw e at (h.bound z (varies z f, f))) [ ]
 
-    by : (v : Option ℤ) → b.value ≡ v → IsAnswer p (option_map (λ x. record { point = b.point; value = x }) v)
+    by : (v : Option ℤ) → b.cost ≡ v → IsAnswer p (option_map (λ x. record { point = b.point; cost = x }) v)
     by None same = none_found same
     by (Some v) same = found v same

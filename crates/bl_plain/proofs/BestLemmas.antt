@@ -25,7 +25,7 @@ kept_same (Some a) = omega (arith, ints)
 
 -- nothing changes where there is no point
 pub Improves-none : (p : Program) (S : List ℤ → Type 0) (a : Best) → ((z : List ℤ) → ¬ S z) → Improves p S a a
-Improves-none p S a none = record { source = inl refl; kept = kept_same a.value; bound = λ z h. absurd (none z h) }
+Improves-none p S a none = record { source = inl refl; kept = kept_same a.cost; bound = λ z h. absurd (none z h) }
 
 -- the same of sets with the same points
 pub Improves-same : (p : Program) (S T : List ℤ → Type 0) (a b : Best) → ((z : List ℤ) → S z → T z) → ((z : List ℤ) → T z → S z) → Improves p S a b → Improves p T a b
@@ -43,14 +43,14 @@ Below p c cs z T x z' = Varies p (c ∷ cs) z z' × T z' × (component z' c <ℤ
 
 -- new is the best of old, of the points below x, and perhaps of further ones
 pub record Seeks (p : Program) (c : ℕ) (cs : List ℕ) (z : List ℤ) (T : List ℤ → Type 0) (x : ℤ) (old new : Best) : Type 0 where
-  pub source : (new ≡ old) ⊎ (Among p (c ∷ cs) z T new.point × (new.value ≡ Some (cost_at p new.point)))
-  pub kept : IfSome old.value (λ before. IsSomeAnd new.value (λ now. now ≤ℤ before))
-  pub bound : (z' : List ℤ) → Below p c cs z T x z' → IsSomeAnd new.value (λ now. now ≤ℤ cost_at p z')
+  pub source : (new ≡ old) ⊎ (Among p (c ∷ cs) z T new.point × (new.cost ≡ Some (cost_at p new.point)))
+  pub kept : IfSome old.cost (λ before. IsSomeAnd new.cost (λ now. now ≤ℤ before))
+  pub bound : (z' : List ℤ) → Below p c cs z T x z' → IsSomeAnd new.cost (λ now. now ≤ℤ cost_at p z')
 
 pub Seeks-start : (p : Program) (c : ℕ) (cs : List ℕ) (z : List ℤ) (T : List ℤ → Type 0) (a : Best) → Seeks p c cs z T (component p.lo c) a a
 Seeks-start p c cs z T a = record {
   source = inl refl;
-  kept = kept_same a.value;
+  kept = kept_same a.cost;
   bound = λ z' b. let low = b.0.least c (Contains-first c cs) in let less = b.2 in absurd (omega (arith, ints));
 }
 
@@ -64,12 +64,12 @@ Seeks-end p c cs z T x a b past h = record {
 pub Seeks-step : (p : Program) (c : ℕ) (cs : List ℕ) (z₀ z : List ℤ) (T : List ℤ → Type 0) (x : ℤ) (a b d : Best) → c < length z → component p.lo c ≤ℤ x → x ≤ℤ component p.hi c → Varies p (c ∷ cs) z₀ z → Seeks p c cs z₀ T x a b → Improves p (Among p cs (set z c x) T) b d → Seeks p c cs z₀ T (x +ℤ pos 1) a d
 Seeks-step p c cs z₀ z T x a b d below low high v old new = record {
   source = ⊎_elim
-      (λ same. let P : Best → Type 0 = λ q. (q ≡ a) ⊎ (Among p (c ∷ cs) z₀ T q.point × (q.value ≡ Some (cost_at p q.point))) in subst P (sym same) old.source)
+      (λ same. let P : Best → Type 0 = λ q. (q ≡ a) ⊎ (Among p (c ∷ cs) z₀ T q.point × (q.cost ≡ Some (cost_at p q.point))) in subst P (sym same) old.source)
       (λ w. inr ((Varies-widen p c cs z₀ z d.point x below low high v w.0.0, w.0.1), w.1))
       new.source;
-  kept = kept_trans a.value b.value d.value old.kept new.kept;
+  kept = kept_trans a.cost b.cost d.cost old.kept new.kept;
   bound = λ z' w. ⊎_elim
-      (λ less. some_le b.value d.value (cost_at p z') (old.bound z' (w.0, w.1, less)) new.kept)
+      (λ less. some_le b.cost d.cost (cost_at p z') (old.bound z' (w.0, w.1, less)) new.kept)
       (λ here. new.bound z' (Varies-narrow p c cs z₀ z z' x below v w.0 here, w.1))
       (below_or_here (component z' c) x w.2);
 }
@@ -81,11 +81,11 @@ pub offer-none : (p : Program) (z : List ℤ) (least : ℤ) (a : Best) → ¬ An
 offer-none p z least a fails = Improves-none p (Among p [] z (AnswersAt p least)) a (λ z' w. fails (let T : List ℤ → Type 0 = AnswersAt p least in subst T (Varies-none p z z' w.0) w.1))
 
 -- a point that costs no less
-pub offer-dear : (p : Program) (z : List ℤ) (least : ℤ) (a : Best) → ¬ IfSome a.value (λ before. cost_at p z <ℤ before) → Improves p (Among p [] z (AnswersAt p least)) a a
+pub offer-dear : (p : Program) (z : List ℤ) (least : ℤ) (a : Best) → ¬ IfSome a.cost (λ before. cost_at p z <ℤ before) → Improves p (Among p [] z (AnswersAt p least)) a a
 offer-dear p z least a dear = record {
   source = inl refl;
-  kept = kept_same a.value;
-  bound = λ z' w. rw (Varies-none p z z' w.0) (not_below a.value (cost_at p z) dear);
+  kept = kept_same a.cost;
+  bound = λ z' w. rw (Varies-none p z z' w.0) (not_below a.cost (cost_at p z) dear);
 }
   where
     not_below : (v : Option ℤ) (y : ℤ) → ¬ IfSome v (λ before. y <ℤ before) → IsSomeAnd v (λ now. now ≤ℤ y)
@@ -93,10 +93,10 @@ offer-dear p z least a dear = record {
     not_below (Some b) y h = by_lt_z y b (λ less. absurd (h less)) (λ ge. ge)
 
 -- a point that is taken
-pub offer-taken : (p : Program) (z : List ℤ) (least : ℤ) (a : Best) → InBox p z → Varies p [] z z → AnswersAt p least z → IfSome a.value (λ before. cost_at p z <ℤ before) → Improves p (Among p [] z (AnswersAt p least)) a (record { point = z; value = Some (cost_at p z) })
+pub offer-taken : (p : Program) (z : List ℤ) (least : ℤ) (a : Best) → InBox p z → Varies p [] z z → AnswersAt p least z → IfSome a.cost (λ before. cost_at p z <ℤ before) → Improves p (Among p [] z (AnswersAt p least)) a (record { point = z; cost = Some (cost_at p z) })
 offer-taken p z least a is v answers less = record {
   source = inr ((v, answers), refl);
-  kept = lower a.value less;
+  kept = lower a.cost less;
   bound = λ z' w. rw (Varies-none p z z' w.0) (omega (arith, ints));
 }
   where

@@ -6,17 +6,17 @@ use Rattle.std.proofs.lemmas.Int.{ints, clamps, by_lt_z}
 use Rattle.std.proofs.lemmas.List.{ext_get_or, length-set, get_or-set_same, get_or-set_other}
 use Rattle.bl_whole.specs.Sums.{component}
 use Rattle.bl_terms.specs.Programs.{Program, InBox, MeetsLowerRows, columns, follower_at}
-use Rattle.bl_model.specs.Build.{is_among}
-use Rattle.bl_model.proofs.SoundLemmas.{Decides-is_among}
+use Rattle.bl_terms.specs.Points.{is_among}
+use Rattle.bl_terms.proofs.TestLemmas.{Decides-among}
 use Rattle.bl_plain.specs.Walk.{Varies, IsLeastCost, lesser}
 
 -- a column is among some or not
 pub among_or_not : (ks : List ℕ) (k : ℕ) → Contains ks k ⊎ (¬ Contains ks k)
-among_or_not ks k = by (is_among ks k) refl
+among_or_not ks k = by (is_among k ks) refl
   where
-    by : (b : Bool) → is_among ks k ≡ b → Contains ks k ⊎ (¬ Contains ks k)
-    by true e = inl ((Decides-is_among ks k).0 e)
-    by false e = inr (λ has. let yes = (Decides-is_among ks k).1 has in cc)
+    by : (b : Bool) → is_among k ks ≡ b → Contains ks k ⊎ (¬ Contains ks k)
+    by true e = inl ((Decides-among k ks).0 e)
+    by false e = inr (λ has. let yes = (Decides-among k ks).1 has in cc)
 
 -- one column more
 pub Contains-first : (c : ℕ) (cs : List ℕ) → Contains (c ∷ cs) c

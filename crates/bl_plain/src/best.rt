@@ -12,7 +12,7 @@ use std::marker::Model;
 #[derive(Debug, Drop)]
 pub(crate) struct Best {
     pub(crate) point: Vec<i64>,
-    pub(crate) value: Option<i64>,
+    pub(crate) cost: Option<i64>,
 }
 
 impl Model for Best {
@@ -22,24 +22,24 @@ impl Model for Best {
 
     ghost coded = { best_code };
 
-    ghost view = { λ b. record { point = b.point.items; value = b.value } };
+    ghost view = { λ b. record { point = b.point.items; cost = b.cost } };
 }
 
-/// A point and its cost to the leader.
+/// A point and its cost to the leader, as it is minimised.
 #[derive(Debug, Drop)]
 pub struct Optimum {
     pub point: Vec<i64>,
-    pub value: i64,
+    pub cost: i64,
 }
 
 impl Model for Optimum {
-    ghost use Rattle.bl_plain.specs.Walk.{Valued, valued_code};
+    ghost use Rattle.bl_plain.specs.Walk.{Costed, costed_code};
 
-    ghost Value = { Valued };
+    ghost Value = { Costed };
 
-    ghost coded = { valued_code };
+    ghost coded = { costed_code };
 
-    ghost view = { λ o. record { point = o.point.items; value = o.value } };
+    ghost view = { λ o. record { point = o.point.items; cost = o.cost } };
 }
 
 impl Best {
@@ -50,9 +50,9 @@ impl Best {
     pub(crate) fn into_optimum(self) -> Option<Optimum>
         ensures { result ≡ optimum_of self }
     {
-        let Best { point, value } = self;
-        match value {
-            Some(value) => Some(Optimum { point, value }),
+        let Best { point, cost } = self;
+        match cost {
+            Some(cost) => Some(Optimum { point, cost }),
             None => None,
         }
     }
@@ -68,18 +68,18 @@ pub(crate) fn offer(model: &Bilevel, z: &[i64], least: i64, best: &mut Best)
 {
     if model.follower_of(z) == least && model.meets_rows(z) {
         let cost = model.cost_of(z);
-        if is_below(cost, best.value) {
+        if is_below(cost, best.cost) {
             best.point.copy_from_slice(z);
-            best.value = Some(cost);
+            best.cost = Some(cost);
         }
     }
 }
 
 // Whether the cost is less than that of the best so far, or the first.
-fn is_below(cost: i64, value: Option<i64>) -> bool
-    ensures { IsTrue result ↔ IfSome value (λ before. cost <ℤ before) }
+fn is_below(cost: i64, least: Option<i64>) -> bool
+    ensures { IsTrue result ↔ IfSome least (λ before. cost <ℤ before) }
 {
-    match value {
+    match least {
         Some(before) => cost < before,
         None => true,
     }

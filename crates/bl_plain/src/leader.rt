@@ -119,7 +119,7 @@ fn leader_columns(alloc: Global, model: &Bilevel) -> Result<Vec<u32>, AllocError
 /// bilevel feasible.
 ///
 /// It walks every point of the box: for each list of leader values the follower's columns once for
-/// his least cost, and once for the points at that cost that meet all rows. Memory is taken as it
+/// its least cost, and once for the points at that cost that meet all rows. Memory is taken as it
 /// begins, and for no point.
 pub fn plain_best(alloc: Global, model: &Bilevel) -> Result<Option<Optimum>, AllocError>
     ensures { IfOk result (λ found. IsAnswer model.now found) }
@@ -128,7 +128,7 @@ pub fn plain_best(alloc: Global, model: &Bilevel) -> Result<Option<Optimum>, All
     let mut z = model.lo().to_vec(alloc)?;
     let mut best = Best {
         point: model.lo().to_vec(alloc)?,
-        value: None,
+        cost: None,
     };
     try_leaders(model, &mut z, &columns, &mut best);
     Ok(best.into_optimum())

@@ -82,7 +82,7 @@ fn solved(
         columns: Listed::new(columns),
     };
     let model = build(alloc, &mps, &aux)?;
-    Ok(plain_best(alloc, &model)?.map(|best| (best.value, best.point)))
+    Ok(plain_best(alloc, &model)?.map(|best| (best.cost, best.point)))
 }
 
 #[test]

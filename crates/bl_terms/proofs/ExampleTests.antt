@@ -9,7 +9,7 @@ use Rattle.bl_limits.specs.declared.TheConstants.{MAX_COLUMNS, MAX_ROWS, MAX_NUM
 use Rattle.bl_whole.specs.Within.{AreWithin}
 use Rattle.bl_whole.proofs.WithinLemmas.{within_entry}
 use Rattle.bl_terms.specs.Points.{is_among}
-use Rattle.bl_terms.specs.Programs.{Program, IsProgram, IsSense, KeepsLimits, columns, row_at, linking_below}
+use Rattle.bl_terms.specs.Programs.{Program, IsProgram, IsSense, KeepsLimits, columns, row_at, is_linking, places_where}
 use Rattle.bl_terms.specs.Bounds.{Problem, Multipliers, Proves, target_of, dual_bound}
 use Rattle.bl_terms.specs.EveryPoint.{all_below}
 use Rattle.bl_terms.proofs.PlaceLemmas.{Contains-from_among, place_of}
@@ -33,7 +33,7 @@ pub program_from_tests : (p : Program) → length p.hi ≡ columns p → all_bel
     → all_below (length p.follower) (λ k. nat_le (length p.follower) (k + 1) || nat_lt (slice_index p.follower k) (slice_index p.follower (k + 1))) ≡ true
     → all_below (length p.follower) (λ k. nat_lt (slice_index p.follower k) (columns p)) ≡ true
     → all_below (columns p) (λ k. is_among k p.follower || int_eq (component p.follower_cost k) (pos 0)) ≡ true
-    → p.links ≡ linking_below p.follower p.rows (columns p) → IsSense p.sense → IsSense p.leader_sense → IsProgram p
+    → p.links ≡ places_where (is_linking p.follower p.rows) (columns p) → IsSense p.sense → IsSense p.leader_sense → IsProgram p
 program_from_tests p sides ordered rows cost follower_cost rising below free linked sign leader_sign = record {
   box = record { sides = sides; ordered = λ k b. (Decides-int_le (component p.lo k) (component p.hi k)).0 (all_pass (columns p) (λ k. int_le (component p.lo k) (component p.hi k)) ordered k b) };
   row_columns = λ i b. let e = all_pass (length p.rows) (λ i. nat_eq (length (row_at p.rows i).coef) (columns p)) rows i b in grind (arith, nat_tests);

@@ -11,12 +11,12 @@ use Rattle.std.proofs.lemmas.List.Elements.{Contains-append_left, Contains-push,
 use Rattle.bl_whole.specs.Sums.{component}
 use Rattle.bl_whole.proofs.SumLemmas.{rising_pairs, Contains-here, Contains-there, Contains-cases}
 use Rattle.bl_terms.specs.Points.{is_among}
-use Rattle.bl_terms.specs.Programs.{Program, Row, columns, row_at, IsLeader, IsInLower, is_in_lower, is_linking, linking_below, LinkingComputed}
+use Rattle.bl_terms.specs.Programs.{Program, Row, columns, row_at, IsLeader, IsInLower, is_in_lower, is_linking, places_where, LinkingComputed}
 use Rattle.bl_terms.proofs.TestLemmas.{Decides-self, Decides-among}
 use Rattle.bl_terms.proofs.PlaceLemmas.{Contains-at, place_of}
 
 -- some row of the follower among the first n has a coefficient other than 0
-abbrev IsInFirst : List Row → ℕ → ℕ → Type 0
+abbrev pub IsInFirst : List Row → ℕ → ℕ → Type 0
 IsInFirst rows n k = (i : ℕ) × (i < n) × IsTrue (row_at rows i).lower × (component (row_at rows i).coef k ≢ pos 0)
 
 is_in_lower_decides : (rows : List Row) (n k : ℕ) → Decides (is_in_lower rows n k) (IsInFirst rows n k)
@@ -37,41 +37,49 @@ is_in_lower_decides rows (suc n) k =
               inr (let P : ℕ → Type 0 = λ x. IsTrue (row_at rows x).lower × (component (row_at rows x).coef k ≢ pos 0) in subst P e (low, ne))
         ]
 
-is_linking_decides : (p : Program) (k : ℕ) → k < columns p → Decides (is_linking p.follower p.rows k) (IsLeader p k × IsInLower p k)
-is_linking_decides p k b =
-    Decides-like (is_linking p.follower p.rows k) (λ h. (record { column = b; leads = h.0 }, h.1)) (λ h. (h.0.leads, h.1))
-    (Decides-and (not (is_among k p.follower)) (is_in_lower p.rows (length p.rows) k) (Decides-not (is_among k p.follower) (Decides-among k p.follower))
-    (is_in_lower_decides p.rows (length p.rows) k))
+pub is_linking_decides : (follower : List ℕ) (rows : List Row) (k : ℕ) → Decides (is_linking follower rows k) ((¬ Contains follower k) × IsInFirst rows (length rows) k)
+is_linking_decides follower rows k =
+    Decides-and (not (is_among k follower)) (is_in_lower rows (length rows) k) (Decides-not (is_among k follower) (Decides-among k follower))
+    (is_in_lower_decides rows (length rows) k)
 
--- the members of `linking_below`
-member_below : (p : Program) (n k : ℕ) → Contains (linking_below p.follower p.rows n) k → (k < n) × (is_linking p.follower p.rows k ≡ true)
-member_below p zero k m = absurd (omega (arith, m.1))
-member_below p (suc n) k m = by (λ h. member_below p n k h) (is_linking p.follower p.rows n) refl m
+-- ---- the places that pass a test
+
+pub passes_from_Contains : (test : ℕ → Bool) (n k : ℕ) → Contains (places_where test n) k → (k < n) × (test k ≡ true)
+passes_from_Contains test zero k m = absurd (omega (arith, m.1))
+passes_from_Contains test (suc n) k m = by (λ h. passes_from_Contains test n k h) (test n) refl m
   where
-    by : (Contains (linking_below p.follower p.rows n) k → (k < n) × (is_linking p.follower p.rows k ≡ true)) → (t : Bool) → is_linking p.follower p.rows n ≡ t
-        → Contains (cond t (linking_below p.follower p.rows n ++ n ∷ []) (linking_below p.follower p.rows n)) k → (k < suc n) × (is_linking p.follower p.rows k ≡ true)
+    by : (Contains (places_where test n) k → (k < n) × (test k ≡ true)) → (t : Bool) → test n ≡ t
+        → Contains (cond t (places_where test n ++ n ∷ []) (places_where test n)) k → (k < suc n) × (test k ≡ true)
     by rest true e h =
-        elim (Contains-push_cases (linking_below p.follower p.rows n) n k h) [
+        elim (Contains-push_cases (places_where test n) n k h) [
           | inl c ↦ let r = rest c in (omega (arith, r.0), r.1)
-          | inr same ↦ (omega arith, subst (λ x. is_linking p.follower p.rows x ≡ true) same e)
+          | inr same ↦ (omega arith, subst (λ x. test x ≡ true) same e)
         ]
     by rest false e h = let r = rest h in (omega (arith, r.0), r.1)
 
-below_member : (p : Program) (n k : ℕ) → k < n → is_linking p.follower p.rows k ≡ true → Contains (linking_below p.follower p.rows n) k
-below_member p zero k b t = absurd (omega arith)
-below_member p (suc n) k b t = by (λ c. below_member p n k c t) (is_linking p.follower p.rows n) refl
+pub Contains_from_passes : (test : ℕ → Bool) (n k : ℕ) → k < n → test k ≡ true → Contains (places_where test n) k
+Contains_from_passes test zero k b t = absurd (omega arith)
+Contains_from_passes test (suc n) k b t = by (λ c. Contains_from_passes test n k c t) (test n) refl
   where
-    by : (k < n → Contains (linking_below p.follower p.rows n) k) → (u : Bool) → is_linking p.follower p.rows n ≡ u → Contains (cond u (linking_below p.follower p.rows n ++ n ∷ []) (linking_below p.follower p.rows n)) k
+    by : (k < n → Contains (places_where test n) k) → (u : Bool) → test n ≡ u → Contains (cond u (places_where test n ++ n ∷ []) (places_where test n)) k
     by rest true e =
         elim (cases_lt k n) [
-          | inl c ↦ Contains-append_left (linking_below p.follower p.rows n) (n ∷ []) k (rest c)
-          | inr c ↦ let same : n ≡ k = omega arith in subst (λ x. Contains (linking_below p.follower p.rows n ++ n ∷ []) x) same (Contains-push (linking_below p.follower p.rows n) n)
+          | inl c ↦ Contains-append_left (places_where test n) (n ∷ []) k (rest c)
+          | inr c ↦ let same : n ≡ k = omega arith in subst (λ x. Contains (places_where test n ++ n ∷ []) x) same (Contains-push (places_where test n) n)
         ]
     by rest false e =
         elim (cases_lt k n) [
           | inl c ↦ rest c
-          | inr c ↦ let same : n ≡ k = omega arith in absurd (true≢false (sym t ∙ subst (λ x. is_linking p.follower p.rows x ≡ false) same e))
+          | inr c ↦ let same : n ≡ k = omega arith in absurd (true≢false (sym t ∙ subst (λ x. test x ≡ false) same e))
         ]
+
+-- tests that agree below n keep the same places
+pub places_where-agree : (p q : ℕ → Bool) (n : ℕ) → ((k : ℕ) → k < n → p k ≡ q k) → places_where p n ≡ places_where q n
+places_where-agree p q zero h = refl
+places_where-agree p q (suc n) h =
+    let i : places_where p n ≡ places_where q n = places_where-agree p q n (λ k b. h k (omega arith)) in
+    let e : p n ≡ q n = h n (omega arith) in
+    rw (e, i) refl
 
 -- a greater number put at the end of a rising list
 rising_push : (xs : List ℕ) (n : ℕ) → IsStrictlyIncreasing xs → ((k : ℕ) → Contains xs k → k < n) → IsStrictlyIncreasing (xs ++ n ∷ [])
@@ -84,12 +92,12 @@ rising_push xs n rise below k b =
           (below (slice_index xs k) (Contains-at xs k (omega arith)))
     ]
 
-linking_rises : (p : Program) (n : ℕ) → IsStrictlyIncreasing (linking_below p.follower p.rows n)
-linking_rises p zero = λ k b. absurd (omega arith)
-linking_rises p (suc n) = by (is_linking p.follower p.rows n) (linking_rises p n)
+pub places_where-rising : (test : ℕ → Bool) (n : ℕ) → IsStrictlyIncreasing (places_where test n)
+places_where-rising test zero = λ k b. absurd (omega arith)
+places_where-rising test (suc n) = by (test n) (places_where-rising test n)
   where
-    by : (t : Bool) → IsStrictlyIncreasing (linking_below p.follower p.rows n) → IsStrictlyIncreasing (cond t (linking_below p.follower p.rows n ++ n ∷ []) (linking_below p.follower p.rows n))
-    by true rise = rising_push (linking_below p.follower p.rows n) n rise (λ k m. (member_below p n k m).0)
+    by : (t : Bool) → IsStrictlyIncreasing (places_where test n) → IsStrictlyIncreasing (cond t (places_where test n ++ n ∷ []) (places_where test n))
+    by true rise = rising_push (places_where test n) n rise (λ k m. (passes_from_Contains test n k m).0)
     by false rise = rise
 
 -- the first element of a rising list is below the others
@@ -118,15 +126,20 @@ same_from_members (x ∷ xs) (y ∷ ys) r s f g =
     cc
 
 pub linking_computed : LinkingComputed
-linking_computed p = (
-  λ l. same_from_members p.links (linking_below p.follower p.rows (columns p)) (rising_pairs p.links l.rising) (rising_pairs (linking_below p.follower p.rows (columns p)) (linking_rises p (columns p)))
-      (λ k m. let h = (l.exact k).0 m in below_member p (columns p) k h.0.column ((is_linking_decides p k h.0.column).1 h))
-      (λ k m. let h = member_below p (columns p) k m in (l.exact k).1 ((is_linking_decides p k h.0).0 h.1)),
-  λ e. record {
-    rising = subst (λ x. IsStrictlyIncreasing x) (sym e) (linking_rises p (columns p));
-    exact = λ k. (
-      λ m. let h = member_below p (columns p) k (subst (λ x. Contains x k) e m) in (is_linking_decides p k h.0).0 h.1,
-      λ h. subst (λ x. Contains x k) (sym e) (below_member p (columns p) k h.0.column ((is_linking_decides p k h.0.column).1 h)),
-    );
-  },
-)
+linking_computed p =
+    let test = is_linking p.follower p.rows in
+    let n = columns p in
+    (
+      λ l. same_from_members p.links (places_where test n) (rising_pairs p.links l.rising) (rising_pairs (places_where test n) (places_where-rising test n))
+          (λ k m. let h = (l.exact k).0 m in Contains_from_passes test n k h.0.column ((is_linking_decides p.follower p.rows k).1 (h.0.leads, h.1)))
+          (λ k m. let h = passes_from_Contains test n k m in let d = (is_linking_decides p.follower p.rows k).0 h.1 in (l.exact k).1 (record { column = h.0; leads = d.0 }, d.1)),
+      λ e. record {
+        rising = subst (λ x. IsStrictlyIncreasing x) (sym e) (places_where-rising test n);
+        exact = λ k. (
+          λ m.
+              let h = passes_from_Contains test n k (subst (λ x. Contains x k) e m) in
+              let d = (is_linking_decides p.follower p.rows k).0 h.1 in (record { column = h.0; leads = d.0 }, d.1),
+          λ h. subst (λ x. Contains x k) (sym e) (Contains_from_passes test n k h.0.column ((is_linking_decides p.follower p.rows k).1 (h.0.leads, h.1))),
+        );
+      },
+    )

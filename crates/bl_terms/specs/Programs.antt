@@ -126,15 +126,14 @@ is_in_lower rows (suc n) k = is_in_lower rows n k || ((row_at rows n).lower && n
 abbrev pub is_linking : List ℕ → List Row → ℕ → Bool
 is_linking follower rows k = not (is_among k follower) && is_in_lower rows (length rows) k
 
--- the columns below n that link, in rising order
-abbrev pub linking_below : List ℕ → List Row → ℕ → List ℕ
-linking_below follower rows zero = []
-linking_below follower rows (suc n) =
-    if is_linking follower rows n then linking_below follower rows n ++ n ∷ [] else linking_below follower rows n
+-- the places below n that pass a test, in rising order
+abbrev pub places_where : (ℕ → Bool) → ℕ → List ℕ
+places_where test zero = []
+places_where test (suc n) = if test n then places_where test n ++ n ∷ [] else places_where test n
 
 -- THE LAW: the linking columns are the columns that pass the test
 abbrev pub LinkingComputed : Type 0
-LinkingComputed = (p : Program) → IsLinking p ↔ (p.links ≡ linking_below p.follower p.rows (columns p))
+LinkingComputed = (p : Program) → IsLinking p ↔ (p.links ≡ places_where (is_linking p.follower p.rows) (columns p))
 
 -- the values of z on the linking columns
 abbrev pub link_of : Program → List ℤ → List ℤ

@@ -1,5 +1,5 @@
 use Rattle.std.proofs.Common.{◌≡◌, false, slice_index_or}
-use Rattle.bl_model.specs.Build.{places_where}
+use Rattle.bl_terms.specs.Programs.{places_where}
 use Rattle.bl_model.proofs.places.marked.Given as goal
 
 -- the places below `place` whose marks are set
