@@ -12,20 +12,26 @@ use Rattle.bl_model.specs.Build.{number_for, rows_of, follower_numbers, program_
 use Rattle.bl_terms.proofs.ProgramLemmas.{places_where-agree}
 
 -- the marked places, where the marks are a test's answers
-pub marks_where : (marks : List Bool) (f : ℕ → Bool) (n : ℕ) → marks ≡ map f (range_with_len 0 n) → places_where (λ k. slice_index_or marks k false) (length marks) ≡ places_where f n
+pub marks_where : (marks : List Bool) (f : ℕ → Bool) (n : ℕ) → marks ≡ map f (range_with_len 0 n)
+    → places_where (λ k. slice_index_or marks k false) (length marks) ≡ places_where f n
 marks_where marks f n is =
     rw (is, length-map-range_with_len f 0 n)
-    (places_where-agree (λ k. slice_index_or (map f (range_with_len 0 n)) k false) f n (λ k below. get_or-map-range_with_len f 0 n k k false below (omega arith)))
+    (places_where-agree (λ k. slice_index_or (map f (range_with_len 0 n)) k false) f n
+    (λ k below. get_or-map-range_with_len f 0 n k k false below (omega arith)))
 
 -- the places of pairs are those of the first list
-small_places : (n : ℕ) (ks : List ℕ) (vs : List ℤ) → AllByRecursion (λ k. k < n) ks → AllByRecursion (λ e. e.0 < n) (zip ks vs)
+small_places : (n : ℕ) (ks : List ℕ) (vs : List ℤ) → AllByRecursion (λ k. k < n) ks
+    → AllByRecursion (λ e. e.0 < n) (zip ks vs)
 small_places n [] vs h = tt
 small_places n (k ∷ ks) [] h = tt
 small_places n (k ∷ ks) (v ∷ vs) h = (h.0, small_places n ks vs h.1)
 
-pub follower_numbers-within : (n : ℕ) (aux : RawAux) → All (λ k. k < n) aux.columns → All (λ e. e.0 < n) (follower_numbers aux)
+pub follower_numbers-within : (n : ℕ) (aux : RawAux) → All (λ k. k < n) aux.columns
+    → All (λ e. e.0 < n) (follower_numbers aux)
 follower_numbers-within n aux h =
-    All-from_recursion (λ e. e.0 < n) (follower_numbers aux) (small_places n aux.columns (map (λ cost. cost *ℤ aux.sense) aux.costs) (recursion_from_All (λ k. k < n) aux.columns h))
+    All-from_recursion (λ e. e.0 < n) (follower_numbers aux)
+    (small_places n aux.columns (map (λ cost. cost *ℤ aux.sense) aux.costs)
+    (recursion_from_All (λ k. k < n) aux.columns h))
 
 -- the parts of a program
 pub record Parts : Type 0 where
@@ -62,4 +68,5 @@ pub program_made : (mps : RawMps) (aux : RawAux) (q : Parts) → AreParts mps au
       leader_sense = pos 1;
     } ≡ program_of mps aux
 unfolding program_of
-program_made mps aux q are = rw (are.links, are.lo, are.hi, are.rows, are.cost, are.follower_cost, are.follower, are.sense) refl
+program_made mps aux q are =
+    rw (are.links, are.lo, are.hi, are.rows, are.cost, are.follower_cost, are.follower, are.sense) refl

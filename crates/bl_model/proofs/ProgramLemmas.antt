@@ -26,19 +26,22 @@ use Rattle.bl_model.proofs.BuildLemmas.{IsSmall-number_for}
 -- ---- sizes
 
 -- every number of a list of columns' numbers is small, also past the end
-within_columns : (f : RawColumn → ℤ) (n : ℕ) (cs : List RawColumn) → ((c : RawColumn) → IsColumn n c → IsSmall (f c)) → AllByRecursion (IsColumn n) cs → (k : ℕ) → IsWithin MAX_NUMBER (component (map f cs) k)
+within_columns : (f : RawColumn → ℤ) (n : ℕ) (cs : List RawColumn) → ((c : RawColumn) → IsColumn n c → IsSmall (f c))
+    → AllByRecursion (IsColumn n) cs → (k : ℕ) → IsWithin MAX_NUMBER (component (map f cs) k)
 within_columns f n [] small h k = within_zero MAX_NUMBER
 within_columns f n (c ∷ cs) small h zero = record { magnitude = small c h.0 }
 within_columns f n (c ∷ cs) small h (suc k) = within_columns f n cs small h.1 k
 
 -- each column's range
-ordered_columns : (n : ℕ) (cs : List RawColumn) → AllByRecursion (IsColumn n) cs → (k : ℕ) → k < length (map (λ c. c.lo) cs) → component (map (λ c. c.lo) cs) k ≤ℤ component (map (λ c. c.hi) cs) k
+ordered_columns : (n : ℕ) (cs : List RawColumn) → AllByRecursion (IsColumn n) cs → (k : ℕ)
+    → k < length (map (λ c. c.lo) cs) → component (map (λ c. c.lo) cs) k ≤ℤ component (map (λ c. c.hi) cs) k
 ordered_columns n [] h k below = absurd (omega (arith, below))
 ordered_columns n (c ∷ cs) h zero below = h.0.ordered
 ordered_columns n (c ∷ cs) h (suc k) below = ordered_columns n cs h.1 k (omega (arith, below))
 
 -- the numbers of a row's sides
-within_negated : (m : ℕ) (coef : List ℤ) → ((k : ℕ) → IsWithin m (component coef k)) → (k : ℕ) → IsWithin m (component (map neg_ℤ coef) k)
+within_negated : (m : ℕ) (coef : List ℤ) → ((k : ℕ) → IsWithin m (component coef k)) → (k : ℕ)
+    → IsWithin m (component (map neg_ℤ coef) k)
 within_negated m [] h k = within_zero m
 within_negated m (x ∷ xs) h zero = within_negation (h zero)
 within_negated m (x ∷ xs) h (suc k) = within_negated m xs (λ j. h (suc j)) k
@@ -49,28 +52,41 @@ record IsSound (n : ℕ) (r : Row) : Type 0 where
   coefs : (k : ℕ) → IsWithin MAX_NUMBER (component r.coef k)
   rhs : IsWithin MAX_RHS r.rhs
 
-sound_rhs : (n : ℕ) (coef : List ℤ) (lower : Bool) (hi : Option ℤ) → length coef ≡ n → ((k : ℕ) → IsWithin MAX_NUMBER (component coef k)) → IfSome hi IsSide → All (IsSound n) (rhs_row coef lower hi)
+sound_rhs : (n : ℕ) (coef : List ℤ) (lower : Bool) (hi : Option ℤ) → length coef ≡ n
+    → ((k : ℕ) → IsWithin MAX_NUMBER (component coef k)) → IfSome hi IsSide → All (IsSound n) (rhs_row coef lower hi)
 sound_rhs n coef lower None count coefs side = All-nil (IsSound n)
 sound_rhs n coef lower (Some hi) count coefs side =
-    All-cons (IsSound n) (record { coef = coef; rhs = hi; lower = lower }) [] (record { count = count; coefs = coefs; rhs = record { magnitude = side } }) (All-nil (IsSound n))
+    All-cons (IsSound n) (record { coef = coef; rhs = hi; lower = lower }) []
+    (record { count = count; coefs = coefs; rhs = record { magnitude = side } }) (All-nil (IsSound n))
 
-sound_lhs : (n : ℕ) (coef : List ℤ) (lower : Bool) (lo : Option ℤ) → length coef ≡ n → ((k : ℕ) → IsWithin MAX_NUMBER (component coef k)) → IfSome lo IsSide → All (IsSound n) (lhs_row coef lower lo)
+sound_lhs : (n : ℕ) (coef : List ℤ) (lower : Bool) (lo : Option ℤ) → length coef ≡ n
+    → ((k : ℕ) → IsWithin MAX_NUMBER (component coef k)) → IfSome lo IsSide → All (IsSound n) (lhs_row coef lower lo)
 sound_lhs n coef lower None count coefs side = All-nil (IsSound n)
 sound_lhs n coef lower (Some lo) count coefs side =
     All-cons (IsSound n) (record { coef = map neg_ℤ coef; rhs = neg_ℤ lo; lower = lower }) []
-    (record { count = length-map coef neg_ℤ ∙ count; coefs = within_negated MAX_NUMBER coef coefs; rhs = within_negation (record { magnitude = side }) })
+    (record {
+      count = length-map coef neg_ℤ ∙ count;
+      coefs = within_negated MAX_NUMBER coef coefs;
+      rhs =
+          within_negation (record { magnitude = side });
+    })
     (All-nil (IsSound n))
 
-sound_rows : (m : ℕ) (cs : List RawColumn) (lower_rows : List ℕ) (i : ℕ) (rows : List RawRow) → AllByRecursion (IsColumn m) cs → AllByRecursion IsRow rows → All (IsSound (length cs)) (rows_from cs lower_rows i rows)
+sound_rows : (m : ℕ) (cs : List RawColumn) (lower_rows : List ℕ) (i : ℕ) (rows : List RawRow)
+    → AllByRecursion (IsColumn m) cs → AllByRecursion IsRow rows
+    → All (IsSound (length cs)) (rows_from cs lower_rows i rows)
 sound_rows m cs lower_rows i [] sound each = All-nil (IsSound (length cs))
 sound_rows m cs lower_rows i (row ∷ rows) sound each =
     let n = length cs in
     let coef = coefficients cs i in
     let lower = is_among i lower_rows in
     let count : length coef ≡ n = length-map cs (λ c. number_for c.entries i) in
-    let coefs : (k : ℕ) → IsWithin MAX_NUMBER (component coef k) = within_columns (λ c. number_for c.entries i) m cs (λ c is. IsSmall-number_for c.entries i (recursion_from_All (λ e. IsSmall e.1) c.entries is.small)) sound in
+    let coefs : (k : ℕ) → IsWithin MAX_NUMBER (component coef k) =
+    within_columns (λ c. number_for c.entries i) m cs
+    (λ c is. IsSmall-number_for c.entries i (recursion_from_All (λ e. IsSmall e.1) c.entries is.small)) sound in
     All-append (IsSound n) (sides cs lower_rows i row) (rows_from cs lower_rows (i + 1) rows)
-    (All-append (IsSound n) (rhs_row coef lower row.hi) (lhs_row coef lower row.lo) (sound_rhs n coef lower row.hi count coefs each.0.hi) (sound_lhs n coef lower row.lo count coefs each.0.lo))
+    (All-append (IsSound n) (rhs_row coef lower row.hi) (lhs_row coef lower row.lo)
+    (sound_rhs n coef lower row.hi count coefs each.0.hi) (sound_lhs n coef lower row.lo count coefs each.0.lo))
     (sound_rows m cs lower_rows (i + 1) rows sound each.1)
 
 -- a row of the text makes at most two
@@ -82,12 +98,20 @@ few_lhs : (coef : List ℤ) (lower : Bool) (lo : Option ℤ) → length (lhs_row
 few_lhs coef lower None = omega arith
 few_lhs coef lower (Some lo) = omega arith
 
-few_rows : (cs : List RawColumn) (lower_rows : List ℕ) (i : ℕ) (rows : List RawRow) → length (rows_from cs lower_rows i rows) ≤ 2 * length rows
+few_rows : (cs : List RawColumn) (lower_rows : List ℕ) (i : ℕ) (rows : List RawRow)
+    → length (rows_from cs lower_rows i rows) ≤ 2 * length rows
 few_rows cs lower_rows i [] = omega arith
 few_rows cs lower_rows i (row ∷ rows) =
     let coef = coefficients cs i in
     let lower = is_among i lower_rows in
-    omega (arith, few_rows cs lower_rows (i + 1) rows, few_rhs coef lower row.hi, few_lhs coef lower row.lo, length-append (sides cs lower_rows i row) (rows_from cs lower_rows (i + 1) rows), length-append (rhs_row coef lower row.hi) (lhs_row coef lower row.lo))
+    omega (
+      arith,
+      few_rows cs lower_rows (i + 1) rows,
+      few_rhs coef lower row.hi,
+      few_lhs coef lower row.lo,
+      length-append (sides cs lower_rows i row) (rows_from cs lower_rows (i + 1) rows),
+      length-append (rhs_row coef lower row.hi) (lhs_row coef lower row.lo),
+    )
 
 -- ---- the follower's costs
 
@@ -96,7 +120,8 @@ small_zip [] vs h = tt
 small_zip (k ∷ ks) [] h = tt
 small_zip (k ∷ ks) (v ∷ vs) h = (h.0, small_zip ks vs h.1)
 
-small_turned : (sense : ℤ) (vs : List ℤ) → IsSense sense → AllByRecursion IsSmall vs → AllByRecursion IsSmall (map (λ v. v *ℤ sense) vs)
+small_turned : (sense : ℤ) (vs : List ℤ) → IsSense sense → AllByRecursion IsSmall vs
+    → AllByRecursion IsSmall (map (λ v. v *ℤ sense) vs)
 small_turned sense [] is h = tt
 small_turned sense (v ∷ vs) is h =
     let one : unsigned_abs sense ≡ 1 = ⊎_elim (λ e. ap unsigned_abs e) (λ e. ap unsigned_abs e) is in
@@ -108,21 +133,25 @@ absent [] vs k h = refl
 absent (p ∷ ps) [] k h = refl
 absent (p ∷ ps) (v ∷ vs) k h = go (k == p) (is_among k ps) h (absent ps vs k)
   where
-    go : (b r : Bool) → (b || r) ≡ false → (r ≡ false → number_for (zip ps vs) k ≡ pos 0) → cond b v (number_for (zip ps vs) k) ≡ pos 0
+    go : (b r : Bool) → (b || r) ≡ false → (r ≡ false → number_for (zip ps vs) k ≡ pos 0)
+        → cond b v (number_for (zip ps vs) k) ≡ pos 0
     go true r e f = cc
     go false r e f = f e
 
 -- a function's values at places, also past the end
-at_places : (f : ℕ → ℤ) (n k : ℕ) → (P : ℤ → Type 0) → P (pos 0) → (k < n → P (f k)) → P (component (map f (range_with_len 0 n)) k)
+at_places : (f : ℕ → ℤ) (n k : ℕ) → (P : ℤ → Type 0) → P (pos 0) → (k < n → P (f k))
+    → P (component (map f (range_with_len 0 n)) k)
 at_places f n k P past here =
     ⊎_elim
     (λ below. rw (get_or-map-range_with_len f 0 n k k (pos 0) below (omega arith)) (here below))
-    (λ above. rw (get_or_past (map f (range_with_len 0 n)) k (pos 0) (omega (arith, above, length-map-range_with_len f 0 n))) past)
+    (λ above. rw (get_or_past (map f (range_with_len 0 n)) k (pos 0)
+    (omega (arith, above, length-map-range_with_len f 0 n))) past)
     (cases_lt k n)
 
 -- ---- the program
 
-pub program_sound : (mps : RawMps) (aux : RawAux) → IsRawModel mps → FitsModel (length mps.columns) (length mps.rows) aux → IsProgram (program_of mps aux)
+pub program_sound : (mps : RawMps) (aux : RawAux) → IsRawModel mps
+    → FitsModel (length mps.columns) (length mps.rows) aux → IsProgram (program_of mps aux)
 unfolding program_of
 program_sound mps aux keeps fits =
     let cs = mps.columns in
@@ -130,12 +159,18 @@ program_sound mps aux keeps fits =
     let p = program_of mps aux in
     let sound = recursion_from_All (IsColumn (length mps.rows)) cs keeps.columns in
     let count : columns p ≡ n = length-map cs (λ c. c.lo) in
-    let rows : All (IsSound n) p.rows = sound_rows (length mps.rows) cs aux.rows 0 mps.rows sound (recursion_from_All IsRow mps.rows keeps.rows) in
+    let rows : All (IsSound n) p.rows =
+    sound_rows (length mps.rows) cs aux.rows 0 mps.rows sound (recursion_from_All IsRow mps.rows keeps.rows) in
     let follows : ℕ → Bool = λ k. is_among k aux.columns in
     let linking : ℕ → Bool = is_linking aux.columns p.rows in
-    let kept = λ (k : ℕ) (below : k < n) (has : Contains aux.columns k). Contains_from_passes follows n k below ((Decides-among k aux.columns).1 has) in
+    let kept = λ (k : ℕ) (below : k < n) (has : Contains aux.columns k). Contains_from_passes follows n k below
+    ((Decides-among k aux.columns).1 has) in
     record {
-      box = record { sides = length-map cs (λ c. c.hi) ∙ sym count; ordered = ordered_columns (length mps.rows) cs sound };
+      box = record {
+        sides = length-map cs (λ c. c.hi) ∙ sym count;
+        ordered =
+            ordered_columns (length mps.rows) cs sound;
+      };
       row_columns = λ i below. (All-get_or (IsSound n) p.rows i no_row below rows).count ∙ sym count;
       cost_columns = length-map cs (λ c. c.cost) ∙ sym count;
       follower_cost_columns = length-map-range_with_len (number_for (follower_numbers aux)) 0 n ∙ sym count;
@@ -143,25 +178,35 @@ program_sound mps aux keeps fits =
       follower_below = λ k has. rw count (passes_from_Contains follows n k has).0;
       leader_free = λ k leader.
           let below : k < n = omega (arith, leader.column, count) in
-          let free : follows k ≡ false = false_from_ne_true (follows k) (λ yes. leader.leads (Contains_from_passes follows n k below yes)) in
-          get_or-map-range_with_len (number_for (follower_numbers aux)) 0 n k k (pos 0) below (omega arith) ∙ absent aux.columns (map (λ v. v *ℤ aux.sense) aux.costs) k free;
+          let free : follows k ≡ false =
+          false_from_ne_true (follows k) (λ yes. leader.leads (Contains_from_passes follows n k below yes)) in
+          get_or-map-range_with_len (number_for (follower_numbers aux)) 0 n k k (pos 0) below (omega arith)
+          ∙ absent aux.columns (map (λ v. v *ℤ aux.sense) aux.costs) k free;
       linking = record {
         rising = places_where-rising linking n;
         exact = λ k. (
           λ has.
               let passed = passes_from_Contains linking n k has in
-              let holds = (is_linking_decides aux.columns p.rows k).0 passed.1 in
-              (record { column = rw count passed.0; leads = λ among. holds.0 ((Decides-among k aux.columns).0 (passes_from_Contains follows n k among).1) }, holds.1),
+              let holds = (is_linking_decides aux.columns p.rows k).0 passed.1 in (
+                record {
+                  column = rw count passed.0;
+                  leads =
+                      λ among. holds.0 ((Decides-among k aux.columns).0 (passes_from_Contains follows n k among).1);
+                },
+                holds.1,
+              ),
           λ is.
               let below : k < n = omega (arith, is.0.column, count) in
-              Contains_from_passes linking n k below ((is_linking_decides aux.columns p.rows k).1 (λ has. is.0.leads (kept k below has), is.1)),
+              Contains_from_passes linking n k below
+              ((is_linking_decides aux.columns p.rows k).1 (λ has. is.0.leads (kept k below has), is.1)),
         );
       };
       sign = fits.sense;
       leader_sign = inl refl;
     }
 
-pub program_limits : (mps : RawMps) (aux : RawAux) → IsRawModel mps → FitsModel (length mps.columns) (length mps.rows) aux → KeepsLimits (program_of mps aux)
+pub program_limits : (mps : RawMps) (aux : RawAux) → IsRawModel mps
+    → FitsModel (length mps.columns) (length mps.rows) aux → KeepsLimits (program_of mps aux)
 unfolding program_of
 program_limits mps aux keeps fits =
     let cs = mps.columns in
@@ -169,15 +214,18 @@ program_limits mps aux keeps fits =
     let p = program_of mps aux in
     let m = length mps.rows in
     let sound = recursion_from_All (IsColumn m) cs keeps.columns in
-    let rows : All (IsSound n) p.rows = sound_rows m cs aux.rows 0 mps.rows sound (recursion_from_All IsRow mps.rows keeps.rows) in
-    let costs = small_zip aux.columns (map (λ v. v *ℤ aux.sense) aux.costs) (small_turned aux.sense aux.costs fits.sense (recursion_from_All IsSmall aux.costs fits.costs)) in
+    let rows : All (IsSound n) p.rows =
+    sound_rows m cs aux.rows 0 mps.rows sound (recursion_from_All IsRow mps.rows keeps.rows) in
+    let costs = small_zip aux.columns (map (λ v. v *ℤ aux.sense) aux.costs)
+    (small_turned aux.sense aux.costs fits.sense (recursion_from_All IsSmall aux.costs fits.costs)) in
     record {
       few_columns = omega (arith, keeps.column_count, length-map cs (λ c. c.lo));
       few_rows = omega (arith, keeps.row_count, few_rows cs aux.rows 0 mps.rows);
       coefs = λ i k below. (All-get_or (IsSound n) p.rows i no_row below rows).coefs k;
       rhs = λ i below. (All-get_or (IsSound n) p.rows i no_row below rows).rhs;
       costs = within_columns (λ c. c.cost) m cs (λ c is. is.cost) sound;
-      follower_costs = λ k. at_places (number_for (follower_numbers aux)) n k (IsWithin MAX_NUMBER) (within_zero MAX_NUMBER) (λ below. record { magnitude = IsSmall-number_for (follower_numbers aux) k costs });
+      follower_costs = λ k. at_places (number_for (follower_numbers aux)) n k (IsWithin MAX_NUMBER)
+          (within_zero MAX_NUMBER) (λ below. record { magnitude = IsSmall-number_for (follower_numbers aux) k costs });
       lower_bounds = within_columns (λ c. c.lo) m cs (λ c is. is.lo) sound;
       upper_bounds = within_columns (λ c. c.hi) m cs (λ c is. is.hi) sound;
     }

@@ -34,12 +34,14 @@ lhs_row coef lower (Some lo) = record { coef = map neg_ℤ coef; rhs = neg_ℤ l
 -- the rows of row i of the text: that of its right-hand side, and then that of its left-hand side
 abbrev pub sides : List RawColumn → List ℕ → ℕ → RawRow → List Row
 sides columns lower_rows i row =
-    rhs_row (coefficients columns i) (is_among i lower_rows) row.hi ++ lhs_row (coefficients columns i) (is_among i lower_rows) row.lo
+    rhs_row (coefficients columns i) (is_among i lower_rows) row.hi
+    ++ lhs_row (coefficients columns i) (is_among i lower_rows) row.lo
 
 -- those of all rows from row i on, in order
 abbrev pub rows_from : List RawColumn → List ℕ → ℕ → List RawRow → List Row
 rows_from columns lower_rows i [] = []
-rows_from columns lower_rows i (row ∷ rows) = sides columns lower_rows i row ++ rows_from columns lower_rows (i + 1) rows
+rows_from columns lower_rows i (row ∷ rows) =
+    sides columns lower_rows i row ++ rows_from columns lower_rows (i + 1) rows
 
 -- the follower's columns, each with its cost, which is always to be minimised
 abbrev pub follower_numbers : RawAux → List (ℕ × ℤ)

@@ -14,22 +14,34 @@ use Rattle.bl_plain.proofs.BestLemmas.{follower-below}
 
 -- the least numbers are a point of the box
 pub In-least : (p : Program) → IsModel p → InBox p p.lo
-In-least p m = record { columns = refl; least = λ k below. omega (arith, ints); most = λ k below. m.sound.box.ordered k below }
+In-least p m = record {
+  columns = refl;
+  least = λ k below. omega (arith, ints);
+  most =
+      λ k below. m.sound.box.ordered k below;
+}
 
 -- a point of the box varies it on all columns
-varies_from_In : (p : Program) (cs : List ℕ) (z : List ℤ) → All (λ c. c < columns p) cs → ((k : ℕ) → k < columns p → Contains cs k) → InBox p z → Varies p cs p.lo z
+varies_from_In : (p : Program) (cs : List ℕ) (z : List ℤ) → All (λ c. c < columns p) cs
+    → ((k : ℕ) → k < columns p → Contains cs k) → InBox p z → Varies p cs p.lo z
 varies_from_In p cs z below all is = record {
   count = is.columns;
   others = λ k out. ⊎_elim
       (λ here. absurd (out (all k here)))
-      (λ above. rw (get_or_past z k (pos 0) (omega (arith, above, is.columns)), get_or_past p.lo k (pos 0) (omega (arith, above))) refl)
+      (λ above. rw (
+        get_or_past z k (pos 0) (omega (arith, above, is.columns)),
+        get_or_past p.lo k (pos 0) (omega (arith, above)),
+      ) refl)
       (cases_lt k (columns p));
   least = λ k has. is.least k (All-contains (λ c. c < columns p) cs k below has);
   most = λ k has. is.most k (All-contains (λ c. c < columns p) cs k below has);
 }
 
 -- the best of all bilevel feasible points is optimal
-pub answer_found : (p : Program) (cs : List ℕ) (point : List ℤ) (b : Best) → IsModel p → All (λ c. c < columns p) cs → ((k : ℕ) → k < columns p → Contains (cs ++ p.follower) k) → Improves p (Among p (cs ++ p.follower) p.lo (BilevelFeasible p)) (record { point = point; cost = None }) b → IsAnswer p (optimum_of b)
+pub answer_found : (p : Program) (cs : List ℕ) (point : List ℤ) (b : Best) → IsModel p → All (λ c. c < columns p) cs
+    → ((k : ℕ) → k < columns p → Contains (cs ++ p.follower) k)
+    → Improves p (Among p (cs ++ p.follower) p.lo (BilevelFeasible p)) (record { point = point; cost = None }) b
+    → IsAnswer p (optimum_of b)
 answer_found p cs point b m below all h = by b.cost refl
   where
     within : All (λ c. c < columns p) (cs ++ p.follower)
@@ -42,8 +54,10 @@ answer_found p cs point b m below all h = by b.cost refl
     found v e = ⊎_elim
         (λ same. let none = ap (λ (a : Best). a.cost) same in cc)
         (λ w.
-        let cost : cost_at p b.point ≡ v = let s = w.1 in cc in
-        (record { feasible = w.0.1; value = refl; least = λ z f. rw cost (rw e at (h.bound z (varies z f, f))) }, sym cost))
+        let cost : cost_at p b.point ≡ v = let s = w.1 in cc in (
+          record { feasible = w.0.1; value = refl; least = λ z f. rw cost (rw e at (h.bound z (varies z f, f))) },
+          sym cost,
+        ))
         h.source
 
     none_found : b.cost ≡ None → (z : List ℤ) → ¬ BilevelFeasible p z

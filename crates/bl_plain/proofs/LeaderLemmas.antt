@@ -13,7 +13,8 @@ last_or_before : (k n : ℕ) → k < n + 1 → (k < n) ⊎ (n ≡ k)
 last_or_before k n h = ⊎_elim (λ less. inl less) (λ ge. inr (omega (arith, ge, h))) (cases_lt k n)
 
 -- column n is found
-pub IsSplit-found : (count n : ℕ) (found follower : List ℕ) → n < count → IsSplit count n found follower → IsSplit count (n + 1) (found ++ n ∷ []) follower
+pub IsSplit-found : (count n : ℕ) (found follower : List ℕ) → n < count → IsSplit count n found follower
+    → IsSplit count (n + 1) (found ++ n ∷ []) follower
 IsSplit-found count n found follower in' h = record {
   below = All-push (λ c. c < count) found n h.below in';
   all = λ k less. ⊎_elim
@@ -21,12 +22,14 @@ IsSplit-found count n found follower in' h = record {
       (λ has. Contains-append_left (found ++ n ∷ []) follower k (Contains-append_left found (n ∷ []) k has))
       (λ has. Contains-append_right (found ++ n ∷ []) follower k has)
       (Contains-append_cases found follower k (h.all k before)))
-      (λ same. Contains-append_left (found ++ n ∷ []) follower k (let P : ℕ → Type 0 = Contains (found ++ n ∷ []) in subst P same (Contains-push found n)))
+      (λ same. Contains-append_left (found ++ n ∷ []) follower k
+      (let P : ℕ → Type 0 = Contains (found ++ n ∷ []) in subst P same (Contains-push found n)))
       (last_or_before k n less);
 }
 
 -- column n is the follower's
-pub IsSplit-kept : (count n : ℕ) (found follower : List ℕ) → Contains follower n → IsSplit count n found follower → IsSplit count (n + 1) found follower
+pub IsSplit-kept : (count n : ℕ) (found follower : List ℕ) → Contains follower n → IsSplit count n found follower
+    → IsSplit count (n + 1) found follower
 IsSplit-kept count n found follower has h = record {
   below = h.below;
   all = λ k less. ⊎_elim

@@ -14,10 +14,13 @@ pub record Varies (p : Program) (columns : List ℕ) (z z' : List ℤ) : Type 0 
   pub least : (k : ℕ) → Contains columns k → component p.lo k ≤ℤ component z' k
   pub most : (k : ℕ) → Contains columns k → component z' k ≤ℤ component p.hi k
 
--- r is the least follower's cost among the points that vary z on these columns and meet the follower's rows, and None where there is none
+-- r is the least follower's cost among the points that vary z on these columns and meet the follower's rows, and None
+-- where there is none
 pub record IsLeastCost (p : Program) (columns : List ℕ) (z : List ℤ) (r : Option ℤ) : Type 0 where
-  pub reached : IfSome r (λ least. (z' : List ℤ) × Varies p columns z z' × MeetsLowerRows p z' × (follower_at p z' ≡ least))
-  pub bound : (z' : List ℤ) → Varies p columns z z' → MeetsLowerRows p z' → IsSomeAnd r (λ least. least ≤ℤ follower_at p z')
+  pub reached : IfSome r
+      (λ least. (z' : List ℤ) × Varies p columns z z' × MeetsLowerRows p z' × (follower_at p z' ≡ least))
+  pub bound : (z' : List ℤ) → Varies p columns z z' → MeetsLowerRows p z'
+      → IsSomeAnd r (λ least. least ≤ℤ follower_at p z')
 
 -- the lesser of two costs, either of which may be missing
 abbrev pub lesser : Option ℤ → Option ℤ → Option ℤ
@@ -32,7 +35,8 @@ pub record Best : Type 0 where
 
 abbrev pub best_code : Coded Best
 best_code =
-    code_by (List ℤ × Option ℤ) (coded× (coded_list coded_ℤ) (coded_option coded_ℤ)) (λ b. (b.point, b.cost)) (λ p. record { point = p.0; cost = p.1 }) (λ _. refl)
+    code_by (List ℤ × Option ℤ) (coded× (coded_list coded_ℤ) (coded_option coded_ℤ)) (λ b. (b.point, b.cost))
+    (λ p. record { point = p.0; cost = p.1 }) (λ _. refl)
 
 -- new is the best of old and of the points in S, and old where none is better
 pub record Improves (p : Program) (S : List ℤ → Type 0) (old new : Best) : Type 0 where
@@ -55,7 +59,8 @@ pub record Costed : Type 0 where
   pub cost : ℤ
 
 abbrev pub costed_code : Coded Costed
-costed_code = code_by (List ℤ × ℤ) (coded× (coded_list coded_ℤ) coded_ℤ) (λ b. (b.point, b.cost)) (λ p. record { point = p.0; cost = p.1 }) (λ _. refl)
+costed_code = code_by (List ℤ × ℤ) (coded× (coded_list coded_ℤ) coded_ℤ) (λ b. (b.point, b.cost))
+    (λ p. record { point = p.0; cost = p.1 }) (λ _. refl)
 
 -- the best point, where there is one
 abbrev pub optimum_of : Best → Option Costed

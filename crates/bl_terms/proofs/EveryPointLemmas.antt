@@ -15,7 +15,8 @@ use Rattle.bl_terms.specs.EveryPoint.{all_numbers, all_below, count_between, all
 use Rattle.bl_terms.proofs.TestLemmas.{Decides-int_le, Decides-int_lt, Decides-implies, Decides-self, and_true, pos-unsigned_abs}
 use Rattle.bl_terms.proofs.PlaceLemmas.{among_from_Contains, Contains-from_among}
 
-pub all_below_decides : (n : ℕ) (test : ℕ → Bool) (P : ℕ → Type 0) → ((k : ℕ) → k < n → Decides (test k) (P k)) → Decides (all_below n test) ((k : ℕ) → k < n → P k)
+pub all_below_decides : (n : ℕ) (test : ℕ → Bool) (P : ℕ → Type 0) → ((k : ℕ) → k < n → Decides (test k) (P k))
+    → Decides (all_below n test) ((k : ℕ) → k < n → P k)
 all_below_decides zero test P each = (λ e k b. absurd (omega arith), λ h. refl)
 all_below_decides (suc n) test P each =
     Decides-like (all_below n test && test n)
@@ -24,9 +25,11 @@ all_below_decides (suc n) test P each =
       | inr c ↦ let e : n ≡ k = omega arith in subst P e both.1
     ])
     (λ h. (λ k b. h k (omega arith), h n (omega arith)))
-    (Decides-and (all_below n test) (test n) (all_below_decides n test P (λ k b. each k (omega arith))) (each n (omega arith)))
+    (Decides-and (all_below n test) (test n) (all_below_decides n test P (λ k b. each k (omega arith)))
+    (each n (omega arith)))
 
-all_numbers_decides : (x : ℤ) (n : ℕ) (test : ℤ → Bool) → Decides (all_numbers x n test) ((y : ℤ) → x ≤ℤ y → y <ℤ (x +ℤ pos n) → test y ≡ true)
+all_numbers_decides : (x : ℤ) (n : ℕ) (test : ℤ → Bool)
+    → Decides (all_numbers x n test) ((y : ℤ) → x ≤ℤ y → y <ℤ (x +ℤ pos n) → test y ≡ true)
 all_numbers_decides x zero test = (λ e y low high. absurd (omega (arith, ints)), λ h. refl)
 all_numbers_decides x (suc n) test =
     let rest = all_numbers_decides (x +ℤ pos 1) n test in (
@@ -61,7 +64,8 @@ between_count lo hi x low high = by (int_le lo hi) refl high
     by true e h = let a = pos-unsigned_abs (hi -ℤ lo +ℤ pos 1) (omega (arith, ints)) in omega (arith, ints)
     by false e h = absurd (omega (arith, ints))
 
-between_cons : (n : ℕ) (lo hi : ℕ → ℤ) (x : ℤ) (z : List ℤ) → lo 0 ≤ℤ x → x ≤ℤ hi 0 → IsBetween n (λ k. lo (suc k)) (λ k. hi (suc k)) z → IsBetween (suc n) lo hi (x ∷ z)
+between_cons : (n : ℕ) (lo hi : ℕ → ℤ) (x : ℤ) (z : List ℤ) → lo 0 ≤ℤ x → x ≤ℤ hi 0
+    → IsBetween n (λ k. lo (suc k)) (λ k. hi (suc k)) z → IsBetween (suc n) lo hi (x ∷ z)
 between_cons n lo hi x z low high b = record { count = ap suc b.count; least = lows; most = highs }
   where
     lows : (k : ℕ) → k < suc n → lo k ≤ℤ component (x ∷ z) k
@@ -72,15 +76,21 @@ between_cons n lo hi x z low high b = record { count = ap suc b.count; least = l
     highs zero c = high
     highs (suc k) c = b.most k (omega arith)
 
-between_tail : (n : ℕ) (lo hi : ℕ → ℤ) (x : ℤ) (z : List ℤ) → IsBetween (suc n) lo hi (x ∷ z) → IsBetween n (λ k. lo (suc k)) (λ k. hi (suc k)) z
+between_tail : (n : ℕ) (lo hi : ℕ → ℤ) (x : ℤ) (z : List ℤ) → IsBetween (suc n) lo hi (x ∷ z)
+    → IsBetween n (λ k. lo (suc k)) (λ k. hi (suc k)) z
 between_tail n lo hi x z b = record {
   count = let c = b.count in omega arith;
   least = λ k c. b.least (suc k) (omega arith);
   most = λ k c. b.most (suc k) (omega arith);
 }
 
-all_points_decides : (n : ℕ) (lo hi : ℕ → ℤ) (test : List ℤ → Bool) → Decides (all_points n lo hi test) ((z : List ℤ) → IsBetween n lo hi z → test z ≡ true)
-all_points_decides zero lo hi test = (λ e. only e, λ h. h [] (record { count = refl; least = λ k b. absurd (omega arith); most = λ k b. absurd (omega arith) }))
+all_points_decides : (n : ℕ) (lo hi : ℕ → ℤ) (test : List ℤ → Bool)
+    → Decides (all_points n lo hi test) ((z : List ℤ) → IsBetween n lo hi z → test z ≡ true)
+all_points_decides zero lo hi test = (
+  λ e. only e,
+  λ h. h []
+      (record { count = refl; least = λ k b. absurd (omega arith); most = λ k b. absurd (omega arith) }),
+)
   where
     only : test [] ≡ true → (z : List ℤ) → IsBetween 0 lo hi z → test z ≡ true
     only e [] b = e
@@ -88,26 +98,35 @@ all_points_decides zero lo hi test = (λ e. only e, λ h. h [] (record { count =
 all_points_decides (suc n) lo hi test =
     by (λ x. all_points_decides n (λ k. lo (suc k)) (λ k. hi (suc k)) (λ z. test (x ∷ z)))
   where
-    by : ((x : ℤ) → Decides (all_points n (λ k. lo (suc k)) (λ k. hi (suc k)) (λ z. test (x ∷ z))) ((z : List ℤ) → IsBetween n (λ k. lo (suc k)) (λ k. hi (suc k)) z → test (x ∷ z) ≡ true))
+    by : ((x : ℤ) → Decides (all_points n (λ k. lo (suc k)) (λ k. hi (suc k)) (λ z. test (x ∷ z)))
+        ((z : List ℤ) → IsBetween n (λ k. lo (suc k)) (λ k. hi (suc k)) z → test (x ∷ z) ≡ true))
         → Decides (all_points (suc n) lo hi test) ((z : List ℤ) → IsBetween (suc n) lo hi z → test z ≡ true)
     by inner = (forward, backward)
       where
-        numbers : Decides (all_points (suc n) lo hi test) ((y : ℤ) → lo 0 ≤ℤ y → y <ℤ (lo 0 +ℤ pos (count_between (lo 0) (hi 0))) → all_points n (λ k. lo (suc k)) (λ k. hi (suc k)) (λ z. test (y ∷ z)) ≡ true)
-        numbers = all_numbers_decides (lo 0) (count_between (lo 0) (hi 0)) (λ x. all_points n (λ k. lo (suc k)) (λ k. hi (suc k)) (λ z. test (x ∷ z)))
+        numbers : Decides (all_points (suc n) lo hi test)
+            ((y : ℤ) → lo 0 ≤ℤ y → y <ℤ (lo 0 +ℤ pos (count_between (lo 0) (hi 0)))
+            → all_points n (λ k. lo (suc k)) (λ k. hi (suc k)) (λ z. test (y ∷ z)) ≡ true)
+        numbers = all_numbers_decides (lo 0) (count_between (lo 0) (hi 0))
+            (λ x. all_points n (λ k. lo (suc k)) (λ k. hi (suc k)) (λ z. test (x ∷ z)))
 
         forward : all_points (suc n) lo hi test ≡ true → (z : List ℤ) → IsBetween (suc n) lo hi z → test z ≡ true
         forward e [] b = let c = b.count in absurd (omega arith)
         forward e (x ∷ z) b =
             let low = b.least 0 (omega arith) in
-            (inner x).0 (numbers.0 e x low (count_between_is (lo 0) (hi 0) x low (b.most 0 (omega arith)))) z (between_tail n lo hi x z b)
+            (inner x).0 (numbers.0 e x low (count_between_is (lo 0) (hi 0) x low (b.most 0 (omega arith)))) z
+            (between_tail n lo hi x z b)
 
         backward : ((z : List ℤ) → IsBetween (suc n) lo hi z → test z ≡ true) → all_points (suc n) lo hi test ≡ true
-        backward h = numbers.1 (λ x low high. (inner x).1 (λ z b. h (x ∷ z) (between_cons n lo hi x z low (between_count (lo 0) (hi 0) x low high) b)))
+        backward h = numbers.1
+            (λ x low high. (inner x).1
+            (λ z b. h (x ∷ z) (between_cons n lo hi x z low (between_count (lo 0) (hi 0) x low high) b)))
 
 -- the points of the program's box
-all_of_box_decides : (p : Program) (test : List ℤ → Bool) → Decides (all_of_box p test) ((z : List ℤ) → InBox p z → test z ≡ true)
+all_of_box_decides : (p : Program) (test : List ℤ → Bool)
+    → Decides (all_of_box p test) ((z : List ℤ) → InBox p z → test z ≡ true)
 all_of_box_decides p test =
-    Decides-like (all_of_box p test) (λ h z inside. h z (record { count = inside.columns; least = inside.least; most = inside.most }))
+    Decides-like (all_of_box p test)
+    (λ h z inside. h z (record { count = inside.columns; least = inside.least; most = inside.most }))
     (λ h z b. h z (record { columns = b.count; least = b.least; most = b.most }))
     (all_points_decides (columns p) (component p.lo) (component p.hi) test)
 
@@ -116,32 +135,43 @@ is_in_decides p z =
     Decides-like (is_in p z)
     (λ both. record { columns = both.0; least = λ k b. (both.1 k b).0; most = λ k b. (both.1 k b).1 })
     (λ inside. (inside.columns, λ k b. (inside.least k b, inside.most k b)))
-    (Decides-and (nat_eq (length z) (columns p)) (all_below (columns p) (λ k. int_le (component p.lo k) (component z k) && int_le (component z k) (component p.hi k)))
+    (Decides-and (nat_eq (length z) (columns p))
+    (all_below (columns p)
+    (λ k. int_le (component p.lo k) (component z k) && int_le (component z k) (component p.hi k)))
     (Decides-eqb (length z) (columns p))
-    (all_below_decides (columns p) (λ k. int_le (component p.lo k) (component z k) && int_le (component z k) (component p.hi k)) (λ k. (component p.lo k ≤ℤ component z k) × (component z k ≤ℤ component p.hi k))
-    (λ k b. Decides-and (int_le (component p.lo k) (component z k)) (int_le (component z k) (component p.hi k)) (Decides-int_le (component p.lo k) (component z k)) (Decides-int_le (component z k) (component p.hi k)))))
+    (all_below_decides (columns p)
+    (λ k. int_le (component p.lo k) (component z k) && int_le (component z k) (component p.hi k))
+    (λ k. (component p.lo k ≤ℤ component z k) × (component z k ≤ℤ component p.hi k))
+    (λ k b. Decides-and (int_le (component p.lo k) (component z k)) (int_le (component z k) (component p.hi k))
+    (Decides-int_le (component p.lo k) (component z k)) (Decides-int_le (component z k) (component p.hi k)))))
 
-meets_row_decides : (p : Program) (z : List ℤ) (i : ℕ) → Decides (meets_row p z i) (Meets (inequality (row_at p.rows i)) z)
+meets_row_decides : (p : Program) (z : List ℤ) (i : ℕ)
+    → Decides (meets_row p z i) (Meets (inequality (row_at p.rows i)) z)
 meets_row_decides p z i =
-    Decides-like (meets_row p z i) (λ h. record { holds = h }) (λ m. m.holds) (Decides-int_le (dot (row_at p.rows i).coef z) (row_at p.rows i).rhs)
+    Decides-like (meets_row p z i) (λ h. record { holds = h }) (λ m. m.holds)
+    (Decides-int_le (dot (row_at p.rows i).coef z) (row_at p.rows i).rhs)
 
 pub meets_rows_decides : (p : Program) (z : List ℤ) → Decides (meets_rows p z) (MeetsRows p z)
 meets_rows_decides p z =
     Decides-like (meets_rows p z) (λ h. record { each = h }) (λ m. m.each)
-    (all_below_decides (length p.rows) (meets_row p z) (λ i. Meets (inequality (row_at p.rows i)) z) (λ i b. meets_row_decides p z i))
+    (all_below_decides (length p.rows) (meets_row p z) (λ i. Meets (inequality (row_at p.rows i)) z)
+    (λ i b. meets_row_decides p z i))
 
 pub meets_lower_decides : (p : Program) (z : List ℤ) → Decides (meets_lower p z) (MeetsLowerRows p z)
 meets_lower_decides p z =
     Decides-like (meets_lower p z) (λ h. record { each = h }) (λ m. m.each)
-    (all_below_decides (length p.rows) (λ i. not (row_at p.rows i).lower || meets_row p z i) (λ i. IsTrue (row_at p.rows i).lower → Meets (inequality (row_at p.rows i)) z)
-    (λ i b. Decides-implies (row_at p.rows i).lower (meets_row p z i) (Decides-self (row_at p.rows i).lower) (meets_row_decides p z i)))
+    (all_below_decides (length p.rows) (λ i. not (row_at p.rows i).lower || meets_row p z i)
+    (λ i. IsTrue (row_at p.rows i).lower → Meets (inequality (row_at p.rows i)) z)
+    (λ i b. Decides-implies (row_at p.rows i).lower (meets_row p z i) (Decides-self (row_at p.rows i).lower)
+    (meets_row_decides p z i)))
 
 -- a column that is not among the follower's is the leader's
 leads_from_test : (p : Program) (k : ℕ) → k < columns p → is_among k p.follower ≡ false → IsLeader p k
 leads_from_test p k b f = record { column = b; leads = λ c. true≢false (sym (among_from_Contains k p.follower c) ∙ f) }
 
 -- the points that agree with z on the leader's columns are those between the ranges of `low_from` and `high_from`
-between_from_lead : (p : Program) (z z' : List ℤ) → InBox p z' → SameLead p z z' → IsBetween (columns p) (low_from p z) (high_from p z) z'
+between_from_lead : (p : Program) (z z' : List ℤ) → InBox p z' → SameLead p z z'
+    → IsBetween (columns p) (low_from p z) (high_from p z) z'
 between_from_lead p z z' inside same = record {
   count = inside.columns;
   least = λ k b. elim (cases_Bool (is_among k p.follower)) [
@@ -154,7 +184,8 @@ between_from_lead p z z' inside same = record {
   ];
 }
 
-in_from_between : (p : Program) (z z' : List ℤ) → InBox p z → IsBetween (columns p) (low_from p z) (high_from p z) z' → InBox p z'
+in_from_between : (p : Program) (z z' : List ℤ) → InBox p z → IsBetween (columns p) (low_from p z) (high_from p z) z'
+    → InBox p z'
 in_from_between p z z' inside between = record {
   columns = between.count;
   least = λ k b. let h = between.least k b in elim (cases_Bool (is_among k p.follower)) [
@@ -167,7 +198,8 @@ in_from_between p z z' inside between = record {
   ];
 }
 
-lead_from_between : (p : Program) (z z' : List ℤ) → IsBetween (columns p) (low_from p z) (high_from p z) z' → SameLead p z z'
+lead_from_between : (p : Program) (z z' : List ℤ) → IsBetween (columns p) (low_from p z) (high_from p z) z'
+    → SameLead p z z'
 lead_from_between p z z' between = record {
   agree = λ k leader.
       let low = between.least k leader.column in
@@ -181,18 +213,27 @@ lead_from_between p z z' between = record {
 is_feasible_decides : (p : Program) (z : List ℤ) → Decides (is_feasible p z) (BilevelFeasible p z)
 is_feasible_decides p z =
     let better : List ℤ → Bool = λ z'. not (meets_lower p z') || int_le (follower_at p z) (follower_at p z') in
-    let each : (z' : List ℤ) → Decides (not (meets_lower p z') || int_le (follower_at p z) (follower_at p z')) (MeetsLowerRows p z' → follower_at p z ≤ℤ follower_at p z') =
-    λ z'. Decides-implies (meets_lower p z') (int_le (follower_at p z) (follower_at p z')) (meets_lower_decides p z') (Decides-int_le (follower_at p z) (follower_at p z')) in
+    let each : (z' : List ℤ)
+    → Decides (not (meets_lower p z') || int_le (follower_at p z) (follower_at p z'))
+    (MeetsLowerRows p z' → follower_at p z ≤ℤ follower_at p z') =
+    λ z'. Decides-implies (meets_lower p z') (int_le (follower_at p z) (follower_at p z')) (meets_lower_decides p z')
+    (Decides-int_le (follower_at p z) (follower_at p z')) in
     Decides-like (is_feasible p z)
     (λ all. record {
       inside = all.0.0;
       rows = all.0.1;
       least = λ z' i l s. (each z').0 (all.1 z' (between_from_lead p z z' i s)) l;
     })
-    (λ f. ((f.inside, f.rows), λ z' b. (each z').1 (λ l. f.least z' (in_from_between p z z' f.inside b) l (lead_from_between p z z' b))))
-    (Decides-and (is_in p z && meets_rows p z) (all_points (columns p) (low_from p z) (high_from p z) (λ z'. not (meets_lower p z') || int_le (follower_at p z) (follower_at p z')))
+    (λ f. (
+      (f.inside, f.rows),
+      λ z' b. (each z').1 (λ l. f.least z' (in_from_between p z z' f.inside b) l (lead_from_between p z z' b)),
+    ))
+    (Decides-and (is_in p z && meets_rows p z)
+    (all_points (columns p) (low_from p z) (high_from p z)
+    (λ z'. not (meets_lower p z') || int_le (follower_at p z) (follower_at p z')))
     (Decides-and (is_in p z) (meets_rows p z) (is_in_decides p z) (meets_rows_decides p z))
-    (all_points_decides (columns p) (low_from p z) (high_from p z) (λ z'. not (meets_lower p z') || int_le (follower_at p z) (follower_at p z'))))
+    (all_points_decides (columns p) (low_from p z) (high_from p z)
+    (λ z'. not (meets_lower p z') || int_le (follower_at p z) (follower_at p z'))))
 
 is_infeasible_decides : (p : Program) → Decides (is_infeasible p) (Infeasible p)
 is_infeasible_decides p =
@@ -203,23 +244,39 @@ is_infeasible_decides p =
 
 is_optimal_decides : (p : Program) (z : List ℤ) (v : ℤ) → Decides (is_optimal p z v) (Optimal p z v)
 is_optimal_decides p z v =
-    let each : (z' : List ℤ) → Decides (not (is_feasible p z') || int_le (cost_at p z) (cost_at p z')) (BilevelFeasible p z' → cost_at p z ≤ℤ cost_at p z') =
-    λ z'. Decides-implies (is_feasible p z') (int_le (cost_at p z) (cost_at p z')) (is_feasible_decides p z') (Decides-int_le (cost_at p z) (cost_at p z')) in
+    let each : (z' : List ℤ)
+    → Decides (not (is_feasible p z') || int_le (cost_at p z) (cost_at p z'))
+    (BilevelFeasible p z' → cost_at p z ≤ℤ cost_at p z') =
+    λ z'. Decides-implies (is_feasible p z') (int_le (cost_at p z) (cost_at p z')) (is_feasible_decides p z')
+    (Decides-int_le (cost_at p z) (cost_at p z')) in
     Decides-like (is_optimal p z v)
     (λ all. record { feasible = all.0.0; value = all.0.1; least = λ z' f. (each z').0 (all.1 z' f.inside) f })
     (λ o. ((o.feasible, o.value), λ z' inside. (each z').1 (λ f. o.least z' f)))
-    (Decides-and (is_feasible p z && int_eq (value_at p z) v) (all_of_box p (λ z'. not (is_feasible p z') || int_le (cost_at p z) (cost_at p z')))
-    (Decides-and (is_feasible p z) (int_eq (value_at p z) v) (is_feasible_decides p z) (Decides-int_eq (value_at p z) v))
+    (Decides-and (is_feasible p z && int_eq (value_at p z) v)
+    (all_of_box p (λ z'. not (is_feasible p z') || int_le (cost_at p z) (cost_at p z')))
+    (Decides-and (is_feasible p z) (int_eq (value_at p z) v) (is_feasible_decides p z)
+    (Decides-int_eq (value_at p z) v))
     (all_of_box_decides p (λ z'. not (is_feasible p z') || int_le (cost_at p z) (cost_at p z'))))
 
 is_only_optimum_decides : (p : Program) (z : List ℤ) (v : ℤ) → Decides (is_only_optimum p z v) (IsOnlyOptimum p z v)
 is_only_optimum_decides p z v =
-    let same : (z' : List ℤ) → Decides (all_below (columns p) (λ k. int_eq (component z k) (component z' k))) ((k : ℕ) → k < columns p → component z k ≡ component z' k) =
-    λ z'. all_below_decides (columns p) (λ k. int_eq (component z k) (component z' k)) (λ k. component z k ≡ component z' k) (λ k b. Decides-int_eq (component z k) (component z' k)) in
-    let each : (z' : List ℤ) → Decides (not (is_feasible p z') || (int_lt (cost_at p z) (cost_at p z') || all_below (columns p) (λ k. int_eq (component z k) (component z' k))))
-    (BilevelFeasible p z' → (cost_at p z <ℤ cost_at p z') ⊎ ((k : ℕ) → k < columns p → component z k ≡ component z' k)) =
-    λ z'. Decides-implies (is_feasible p z') (int_lt (cost_at p z) (cost_at p z') || all_below (columns p) (λ k. int_eq (component z k) (component z' k))) (is_feasible_decides p z')
-    (Decides-or (int_lt (cost_at p z) (cost_at p z')) (all_below (columns p) (λ k. int_eq (component z k) (component z' k))) (Decides-int_lt (cost_at p z) (cost_at p z')) (same z')) in
+    let same : (z' : List ℤ)
+    → Decides (all_below (columns p) (λ k. int_eq (component z k) (component z' k)))
+    ((k : ℕ) → k < columns p → component z k ≡ component z' k) =
+    λ z'. all_below_decides (columns p) (λ k. int_eq (component z k) (component z' k))
+    (λ k. component z k ≡ component z' k) (λ k b. Decides-int_eq (component z k) (component z' k)) in
+    let each : (z' : List ℤ)
+    → Decides (not (is_feasible p z')
+    || (int_lt (cost_at p z) (cost_at p z')
+    || all_below (columns p) (λ k. int_eq (component z k) (component z' k))))
+    (BilevelFeasible p z'
+    → (cost_at p z <ℤ cost_at p z') ⊎ ((k : ℕ) → k < columns p → component z k ≡ component z' k)) =
+    λ z'. Decides-implies (is_feasible p z')
+    (int_lt (cost_at p z) (cost_at p z') || all_below (columns p) (λ k. int_eq (component z k) (component z' k)))
+    (is_feasible_decides p z')
+    (Decides-or (int_lt (cost_at p z) (cost_at p z'))
+    (all_below (columns p) (λ k. int_eq (component z k) (component z' k)))
+    (Decides-int_lt (cost_at p z) (cost_at p z')) (same z')) in
     Decides-like (is_only_optimum p z v)
     (λ all. record {
       optimal = all.0;
@@ -244,9 +301,15 @@ is_only_optimum_decides p z v =
           }) in
           ap (λ x. component x k) (sym e)))),
     ))
-    (Decides-and (is_optimal p z v) (all_of_box p (λ z'. not (is_feasible p z') || (int_lt (cost_at p z) (cost_at p z') || all_below (columns p) (λ k. int_eq (component z k) (component z' k)))))
+    (Decides-and (is_optimal p z v)
+    (all_of_box p (λ z'. not (is_feasible p z')
+    || (int_lt (cost_at p z) (cost_at p z')
+    || all_below (columns p) (λ k. int_eq (component z k) (component z' k)))))
     (is_optimal_decides p z v)
-    (all_of_box_decides p (λ z'. not (is_feasible p z') || (int_lt (cost_at p z) (cost_at p z') || all_below (columns p) (λ k. int_eq (component z k) (component z' k))))))
+    (all_of_box_decides p
+    (λ z'. not (is_feasible p z')
+    || (int_lt (cost_at p z) (cost_at p z')
+    || all_below (columns p) (λ k. int_eq (component z k) (component z' k))))))
 
 pub tests_decide : TestsDecide
 tests_decide = record {

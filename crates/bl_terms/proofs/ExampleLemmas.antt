@@ -56,7 +56,8 @@ choice_facts = record {
 }
 
 -- (0, 1) and (0, 0) agree on the leader's column
-refuser_agrees : (k : ℕ) → IsLeader leader_refuses k → component (two (pos 0) (pos 1)) k ≡ component (two (pos 0) (pos 0)) k
+refuser_agrees : (k : ℕ) → IsLeader leader_refuses k
+    → component (two (pos 0) (pos 1)) k ≡ component (two (pos 0) (pos 0)) k
 refuser_agrees zero l = refl
 refuser_agrees (suc zero) l = absurd (l.leads (0, omega arith, refl))
 refuser_agrees (suc (suc k)) l = refl
@@ -65,7 +66,13 @@ refusal_facts : RefusalFacts
 refusal_facts = record {
   rows = (meets_rows_decides leader_refuses (two (pos 0) (pos 1))).0 refl;
   least = record {
-    reached = (two (pos 0) (pos 0), (is_in_decides leader_refuses (two (pos 0) (pos 0))).0 refl, (meets_lower_decides leader_refuses (two (pos 0) (pos 0))).0 refl, record { agree = refuser_agrees }, refl);
+    reached = (
+      two (pos 0) (pos 0),
+      (is_in_decides leader_refuses (two (pos 0) (pos 0))).0 refl,
+      (meets_lower_decides leader_refuses (two (pos 0) (pos 0))).0 refl,
+      record { agree = refuser_agrees },
+      refl,
+    );
     least = λ z' inside lower same.
         let h = inside.least 1 (omega arith) in
         let e = zero-*ℤ (component z' 0) in
@@ -100,23 +107,55 @@ split_facts = record {
 
 program_facts : ProgramFacts
 program_facts = record {
-  first = (program_from_tests moore_bard refl refl refl refl refl refl refl refl refl (inl refl) (inl refl), limits_from_tests moore_bard refl refl refl refl refl refl refl refl);
-  second = (program_from_tests greatest_answer refl refl refl refl refl refl refl refl refl (inr refl) (inl refl), limits_from_tests greatest_answer refl refl refl refl refl refl refl refl);
-  third = (program_from_tests least_answer refl refl refl refl refl refl refl refl refl (inl refl) (inl refl), limits_from_tests least_answer refl refl refl refl refl refl refl refl);
-  fourth = (program_from_tests leader_chooses refl refl refl refl refl refl refl refl refl (inl refl) (inl refl), limits_from_tests leader_chooses refl refl refl refl refl refl refl refl);
-  fifth = (program_from_tests leader_refuses refl refl refl refl refl refl refl refl refl (inl refl) (inl refl), limits_from_tests leader_refuses refl refl refl refl refl refl refl refl);
-  sixth = (program_from_tests no_follower refl refl refl refl refl refl refl refl refl (inl refl) (inl refl), limits_from_tests no_follower refl refl refl refl refl refl refl refl);
-  seventh = (program_from_tests half_row refl refl refl refl refl refl refl refl refl (inl refl) (inl refl), limits_from_tests half_row refl refl refl refl refl refl refl refl);
-  ninth = (program_from_tests (one_point (pos 2)) refl refl refl refl refl refl refl refl refl (inl refl) (inl refl), limits_from_tests (one_point (pos 2)) refl refl refl refl refl refl refl refl);
-  tenth = (program_from_tests (one_point (pos 3)) refl refl refl refl refl refl refl refl refl (inl refl) (inl refl), limits_from_tests (one_point (pos 3)) refl refl refl refl refl refl refl refl);
-  eighth = (program_from_tests one_cut refl refl refl refl refl refl refl refl refl (inl refl) (inl refl), limits_from_tests one_cut refl refl refl refl refl refl refl refl);
+  first = (
+    program_from_tests moore_bard refl refl refl refl refl refl refl refl refl (inl refl) (inl refl),
+    limits_from_tests moore_bard refl refl refl refl refl refl refl refl,
+  );
+  second = (
+    program_from_tests greatest_answer refl refl refl refl refl refl refl refl refl (inr refl) (inl refl),
+    limits_from_tests greatest_answer refl refl refl refl refl refl refl refl,
+  );
+  third = (
+    program_from_tests least_answer refl refl refl refl refl refl refl refl refl (inl refl) (inl refl),
+    limits_from_tests least_answer refl refl refl refl refl refl refl refl,
+  );
+  fourth = (
+    program_from_tests leader_chooses refl refl refl refl refl refl refl refl refl (inl refl) (inl refl),
+    limits_from_tests leader_chooses refl refl refl refl refl refl refl refl,
+  );
+  fifth = (
+    program_from_tests leader_refuses refl refl refl refl refl refl refl refl refl (inl refl) (inl refl),
+    limits_from_tests leader_refuses refl refl refl refl refl refl refl refl,
+  );
+  sixth = (
+    program_from_tests no_follower refl refl refl refl refl refl refl refl refl (inl refl) (inl refl),
+    limits_from_tests no_follower refl refl refl refl refl refl refl refl,
+  );
+  seventh = (
+    program_from_tests half_row refl refl refl refl refl refl refl refl refl (inl refl) (inl refl),
+    limits_from_tests half_row refl refl refl refl refl refl refl refl,
+  );
+  ninth = (
+    program_from_tests (one_point (pos 2)) refl refl refl refl refl refl refl refl refl (inl refl) (inl refl),
+    limits_from_tests (one_point (pos 2)) refl refl refl refl refl refl refl refl,
+  );
+  tenth = (
+    program_from_tests (one_point (pos 3)) refl refl refl refl refl refl refl refl refl (inl refl) (inl refl),
+    limits_from_tests (one_point (pos 3)) refl refl refl refl refl refl refl refl,
+  );
+  eighth = (
+    program_from_tests one_cut refl refl refl refl refl refl refl refl refl (inl refl) (inl refl),
+    limits_from_tests one_cut refl refl refl refl refl refl refl refl,
+  );
 }
 
 -- ---- bound proofs and entries of Moore and Bard's program
 
-moore_bard_proof : Proves (relaxation moore_bard) (Some (negsuc 41)) (weights (pos 35) (four (pos 4) (pos 135) (pos 0) (pos 0)))
+moore_bard_proof : Proves (relaxation moore_bard) (Some (negsuc 41))
+    (weights (pos 35) (four (pos 4) (pos 135) (pos 0) (pos 0)))
 moore_bard_proof =
-    proves_from_tests (relaxation moore_bard) (Some (negsuc 41)) (weights (pos 35) (four (pos 4) (pos 135) (pos 0) (pos 0))) refl (le_z_yes tt) (le_z_yes tt) refl
+    proves_from_tests (relaxation moore_bard) (Some (negsuc 41))
+    (weights (pos 35) (four (pos 4) (pos 135) (pos 0) (pos 0))) refl (le_z_yes tt) (le_z_yes tt) refl
     (λ e. cc) (lt_z_yes tt)
 
 moore_bard_problem : IsProblem (relaxation moore_bard)
@@ -136,7 +175,8 @@ bound_facts = record {
   problem = moore_bard_problem;
   proved = moore_bard_proof;
   unproved = λ p. clash_ℤ p.beyond (le_z_yes tt);
-  bounded = λ z point. weak_duality (relaxation moore_bard) (negsuc 41) (weights (pos 35) (four (pos 4) (pos 135) (pos 0) (pos 0))) z moore_bard_problem moore_bard_proof point;
+  bounded = λ z point. weak_duality (relaxation moore_bard) (negsuc 41)
+      (weights (pos 35) (four (pos 4) (pos 135) (pos 0) (pos 0))) z moore_bard_problem moore_bard_proof point;
 }
 
 -- the response 2 to the link 2
@@ -154,7 +194,8 @@ answer_two = record {
     most zero b = le_z_yes tt
     most (suc j) b = absurd (omega arith)
 
-    rows : (i : ℕ) → i < 4 → IsTrue (row_at moore_bard.rows i).lower → lhs_of moore_bard (row_at moore_bard.rows i) (one (pos 2)) (one (pos 2)) ≤ℤ (row_at moore_bard.rows i).rhs
+    rows : (i : ℕ) → i < 4 → IsTrue (row_at moore_bard.rows i).lower
+        → lhs_of moore_bard (row_at moore_bard.rows i) (one (pos 2)) (one (pos 2)) ≤ℤ (row_at moore_bard.rows i).rhs
     rows zero b low = le_z_yes tt
     rows (suc zero) b low = le_z_yes tt
     rows (suc (suc zero)) b low = le_z_yes tt
@@ -162,9 +203,13 @@ answer_two = record {
     rows (suc (suc (suc (suc i)))) b low = absurd (omega arith)
 
 -- a leaf of a tree at a link
-leaf_proof : (l : ℤ) (a : Area) (u : Option ℤ) (w : Multipliers) → length w.mult ≡ 4 → pos 0 ≤ℤ w.den → w.den ≤ℤ MAX_PROOF_NUMBER
-    → all_below (length w.mult) (λ i. int_le (pos 0) (component w.mult i) && int_le (component w.mult i) MAX_PROOF_NUMBER) ≡ true → (u ≡ None → w.den ≡ pos 0)
-    → target_of u w <ℤ dual_bound (follower_problem moore_bard (one l) a) w → Proves (follower_problem moore_bard (one l) a) u w
+leaf_proof : (l : ℤ) (a : Area) (u : Option ℤ) (w : Multipliers) → length w.mult ≡ 4 → pos 0 ≤ℤ w.den
+    → w.den ≤ℤ MAX_PROOF_NUMBER
+    → all_below (length w.mult)
+    (λ i. int_le (pos 0) (component w.mult i) && int_le (component w.mult i) MAX_PROOF_NUMBER) ≡ true
+    → (u ≡ None → w.den ≡ pos 0)
+    → target_of u w <ℤ dual_bound (follower_problem moore_bard (one l) a) w
+    → Proves (follower_problem moore_bard (one l) a) u w
 leaf_proof l a u w = proves_from_tests (follower_problem moore_bard (one l) a) u w
 
 entry_facts : EntryFacts
@@ -172,17 +217,32 @@ entry_facts =
     let at_two : ProvesBest moore_bard (one (pos 2)) (one (pos 2)) (pos 2) tree_at_two = record {
       response = answer_two;
       value = refl;
-      tree = (leaf_proof (pos 2) (follower_box moore_bard) (Some (pos 2)) (weights (pos 10) (four (pos 0) (pos 0) (pos 0) (pos 1))) refl (le_z_yes tt) (le_z_yes tt) refl (λ e. cc) (lt_z_yes tt), tt);
+      tree = (
+        leaf_proof (pos 2) (follower_box moore_bard) (Some (pos 2))
+            (weights (pos 10) (four (pos 0) (pos 0) (pos 0) (pos 1))) refl (le_z_yes tt) (le_z_yes tt) refl (λ e. cc)
+            (lt_z_yes tt),
+        tt,
+      );
     } in
     let at_zero : ClosesFollower moore_bard (one (pos 0)) None tree_at_zero = (
       (record { column = omega arith; least = le_z_yes tt; below = lt_z_yes tt }, tt),
       (
-        leaf_proof (pos 0) (low_half (follower_box moore_bard) 0 (pos 1)) None (weights (pos 0) (four (pos 0) (pos 0) (pos 0) (pos 1))) refl (le_z_yes tt) (le_z_yes tt) refl (λ e. refl) (lt_z_yes tt),
-        (leaf_proof (pos 0) (high_half (follower_box moore_bard) 0 (pos 1)) None (weights (pos 0) (four (pos 1) (pos 0) (pos 0) (pos 0))) refl (le_z_yes tt) (le_z_yes tt) refl (λ e. refl) (lt_z_yes tt), tt),
+        leaf_proof (pos 0) (low_half (follower_box moore_bard) 0 (pos 1)) None
+            (weights (pos 0) (four (pos 0) (pos 0) (pos 0) (pos 1))) refl (le_z_yes tt) (le_z_yes tt) refl (λ e. refl)
+            (lt_z_yes tt),
+        (
+          leaf_proof (pos 0) (high_half (follower_box moore_bard) 0 (pos 1)) None
+              (weights (pos 0) (four (pos 1) (pos 0) (pos 0) (pos 0))) refl (le_z_yes tt) (le_z_yes tt) refl (λ e. refl)
+              (lt_z_yes tt),
+          tt,
+        ),
       ),
     ) in
-    let at_nine : ClosesFollower moore_bard (one (pos 9)) None tree_at_nine =
-    (leaf_proof (pos 9) (follower_box moore_bard) None (weights (pos 0) (four (pos 0) (pos 1) (pos 2) (pos 0))) refl (le_z_yes tt) (le_z_yes tt) refl (λ e. refl) (lt_z_yes tt), tt) in
+    let at_nine : ClosesFollower moore_bard (one (pos 9)) None tree_at_nine = (
+      leaf_proof (pos 9) (follower_box moore_bard) None (weights (pos 0) (four (pos 0) (pos 1) (pos 2) (pos 0))) refl
+          (le_z_yes tt) (le_z_yes tt) refl (λ e. refl) (lt_z_yes tt),
+      tt,
+    ) in
     let g = program_facts.first.0 in
     record {
       proof_at_two = at_two;

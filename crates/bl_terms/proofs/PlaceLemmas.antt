@@ -22,7 +22,8 @@ pub Contains-from_among : (k : ℕ) (ks : List ℕ) → is_among k ks ≡ true �
 Contains-from_among k [] h = cc
 Contains-from_among k (j ∷ js) h = by (λ g. Contains-from_among k js g) (nat_eq k j) refl h
   where
-    by : (is_among k js ≡ true → Contains js k) → (t : Bool) → nat_eq k j ≡ t → (t || is_among k js) ≡ true → Contains (j ∷ js) k
+    by : (is_among k js ≡ true → Contains js k) → (t : Bool) → nat_eq k j ≡ t → (t || is_among k js) ≡ true
+        → Contains (j ∷ js) k
     by rest true e g = subst (Contains (j ∷ js)) (sym (eqb-true k j e)) (Contains-here j js)
     by rest false e g = Contains-there j k js (rest g)
 
@@ -43,14 +44,17 @@ pub place_of : (ks : List ℕ) (k : ℕ) → Contains ks k → (j : ℕ) × (j <
 place_of ks k c = (c.0, c.1, get_or_default ks c.0 0 k c.1 ∙ c.2)
 
 -- the number at a place of a list of values
-pub values_at-entry : (z : List ℤ) (ks : List ℕ) (j : ℕ) → j < length ks → component (values_at z ks) j ≡ component z (slice_index ks j)
+pub values_at-entry : (z : List ℤ) (ks : List ℕ) (j : ℕ) → j < length ks
+    → component (values_at z ks) j ≡ component z (slice_index ks j)
 values_at-entry z ks j b = get_or-map (λ k. component z k) ks j 0 (pos 0) b
 
 -- the sum over ks of the products at its places
-pub dot-values_at : (c z : List ℤ) (ks : List ℕ) → dot (values_at c ks) (values_at z ks) ≡ sum_over ks (λ k. component c k *ℤ component z k)
+pub dot-values_at : (c z : List ℤ) (ks : List ℕ)
+    → dot (values_at c ks) (values_at z ks) ≡ sum_over ks (λ k. component c k *ℤ component z k)
 dot-values_at c z ks =
     rw (length-map ks (λ k. component c k))
-    (sum_below-agree (length ks) (λ j. component (values_at c ks) j *ℤ component (values_at z ks) j) (λ j. component c (slice_index ks j) *ℤ component z (slice_index ks j))
+    (sum_below-agree (length ks) (λ j. component (values_at c ks) j *ℤ component (values_at z ks) j)
+    (λ j. component c (slice_index ks j) *ℤ component z (slice_index ks j))
     (λ j b. let e = values_at-entry c ks j b in let f = values_at-entry z ks j b in cc))
 
 -- zs with the numbers of ys at the places ks
@@ -64,15 +68,19 @@ length-put_at [] ys zs = refl
 length-put_at (k ∷ ks) [] zs = refl
 length-put_at (k ∷ ks) (y ∷ ys) zs = rw length-set (length-put_at ks ys zs)
 
-pub put_at-other : (ks : List ℕ) (ys zs : List ℤ) (j : ℕ) → ¬ Contains ks j → component (put_at ks ys zs) j ≡ component zs j
+pub put_at-other : (ks : List ℕ) (ys zs : List ℤ) (j : ℕ) → ¬ Contains ks j
+    → component (put_at ks ys zs) j ≡ component zs j
 put_at-other [] ys zs j absent = refl
 put_at-other (k ∷ ks) [] zs j absent = refl
 put_at-other (k ∷ ks) (y ∷ ys) zs j absent =
     let ne : j ≢ k = λ e. absent (subst (Contains (k ∷ ks)) (sym e) (Contains-here k ks)) in
-    get_or-set_other (put_at ks ys zs) k j y (pos 0) ne ∙ put_at-other ks ys zs j (λ c. absent (Contains-there k j ks c))
+    get_or-set_other (put_at ks ys zs) k j y (pos 0) ne
+    ∙ put_at-other ks ys zs j (λ c. absent (Contains-there k j ks c))
 
-pub put_at-same : (ks : List ℕ) (ys zs : List ℤ) → ((i j : ℕ) → i < j → j < length ks → slice_index ks i < slice_index ks j)
-    → ((k : ℕ) → Contains ks k → k < length zs) → length ys ≡ length ks → (j : ℕ) → j < length ks → component (put_at ks ys zs) (slice_index ks j) ≡ component ys j
+pub put_at-same : (ks : List ℕ) (ys zs : List ℤ)
+    → ((i j : ℕ) → i < j → j < length ks → slice_index ks i < slice_index ks j)
+    → ((k : ℕ) → Contains ks k → k < length zs) → length ys ≡ length ks → (j : ℕ) → j < length ks
+    → component (put_at ks ys zs) (slice_index ks j) ≡ component ys j
 put_at-same [] ys zs rise below e j b = absurd (omega arith)
 put_at-same (k ∷ ks) [] zs rise below e j b = absurd (omega arith)
 put_at-same (k ∷ ks) (y ∷ ys) zs rise below e zero b =
@@ -83,7 +91,8 @@ put_at-same (k ∷ ks) (y ∷ ys) zs rise below e (suc j) b =
     let r : k < slice_index ks j = rise 0 (suc j) (omega arith) b in
     let ne : slice_index ks j ≢ k = omega arith in
     get_or-set_other (put_at ks ys zs) k (slice_index ks j) y (pos 0) ne
-    ∙ put_at-same ks ys zs (λ i i' a a'. rise (suc i) (suc i') (omega arith) (omega arith)) (λ i c. below i (Contains-there k i ks c)) (omega arith) j (omega arith)
+    ∙ put_at-same ks ys zs (λ i i' a a'. rise (suc i) (suc i') (omega arith) (omega arith))
+    (λ i c. below i (Contains-there k i ks c)) (omega arith) j (omega arith)
 
 -- f at the places in ks, and 0 elsewhere; and the other way round
 abbrev pub inside : List ℕ → (ℕ → ℤ) → ℕ → ℤ
@@ -117,12 +126,15 @@ outside-none ks f k absent = ap (λ t. cond t (pos 0) (f k)) (not_among k ks abs
 
 -- a sum whose summands are 0 but at the places of two rising lists without a common place is the sum over these lists
 pub sum_below_two : (n : ℕ) (ks js : List ℕ) (f : ℕ → ℤ) → IsStrictlyIncreasing ks → IsStrictlyIncreasing js
-    → ((k : ℕ) → Contains ks k → k < n) → ((k : ℕ) → Contains js k → k < n) → ((k : ℕ) → Contains js k → ¬ Contains ks k)
-    → ((k : ℕ) → k < n → ¬ Contains ks k → ¬ Contains js k → f k ≡ pos 0) → sum_below n f ≡ sum_over ks f +ℤ sum_over js f
+    → ((k : ℕ) → Contains ks k → k < n) → ((k : ℕ) → Contains js k → k < n)
+    → ((k : ℕ) → Contains js k → ¬ Contains ks k)
+    → ((k : ℕ) → k < n → ¬ Contains ks k → ¬ Contains js k → f k ≡ pos 0)
+    → sum_below n f ≡ sum_over ks f +ℤ sum_over js f
 sum_below_two n ks js f rise rise' below below' apart rest =
     let parts : sum_below n f ≡ sum_below n (λ k. inside ks f k +ℤ outside ks f k) =
     sum_below-agree n f (λ k. inside ks f k +ℤ outside ks f k) (λ k b. inside-outside ks f k) in
-    let added : sum_below n (λ k. inside ks f k +ℤ outside ks f k) ≡ sum_below n (inside ks f) +ℤ sum_below n (outside ks f) =
+    let added : sum_below n (λ k. inside ks f k +ℤ outside ks f k) ≡ sum_below n (inside ks f)
+    +ℤ sum_below n (outside ks f) =
     sum_below-add n (inside ks f) (outside ks f) in
     let first : sum_below n (inside ks f) ≡ sum_over ks (inside ks f) =
     sum_below_picked n ks (inside ks f) rise below (λ k b absent. inside-none ks f k absent) in
@@ -133,7 +145,8 @@ sum_below_two n ks js f rise rise' below below' apart rest =
       | inr absent' ↦ outside-none ks f k absent' ∙ rest k b absent' absent
     ]) in
     let same : sum_over ks (inside ks f) ≡ sum_over ks f =
-    sum_below-agree (length ks) (λ j. inside ks f (slice_index ks j)) (λ j. f (slice_index ks j)) (λ j b. inside-some ks f (slice_index ks j) (Contains-at ks j b)) in
+    sum_below-agree (length ks) (λ j. inside ks f (slice_index ks j)) (λ j. f (slice_index ks j))
+    (λ j b. inside-some ks f (slice_index ks j) (Contains-at ks j b)) in
     let same' : sum_over js (outside ks f) ≡ sum_over js f =
     sum_below-agree (length js) (λ j. outside ks f (slice_index js j)) (λ j. f (slice_index js j))
     (λ j b. outside-none ks f (slice_index js j) (apart (slice_index js j) (Contains-at js j b))) in

@@ -10,8 +10,10 @@ use Rattle.bl_terms.specs.Points.{Area, InArea, IsWithinArea, zeros, ZerosAskNot
 pub point_of_part : {a outer : Area} {z : List ℤ} → IsWithinArea a outer → InArea a z → InArea outer z
 point_of_part part inside = record {
   columns = inside.columns ∙ part.columns;
-  least = λ k b. let e = part.columns in let h = part.least k b in let g = inside.least k (omega arith) in omega (arith, ints);
-  most = λ k b. let e = part.columns in let h = part.most k b in let g = inside.most k (omega arith) in omega (arith, ints);
+  least = λ k b. let e = part.columns in let h = part.least k b in let g = inside.least k (omega arith) in
+      omega (arith, ints);
+  most = λ k b. let e = part.columns in let h = part.most k b in let g = inside.most k (omega arith) in
+      omega (arith, ints);
 }
 
 pub part_of_itself : (a : Area) → IsWithinArea a a
@@ -32,6 +34,7 @@ zero_at (suc n) (suc k) = zero_at n k
 pub zeros_ask_nothing : ZerosAskNothing
 zeros_ask_nothing n z = record {
   holds =
-      let none = sum_below-zero (length (zeros n)) (λ k. component (zeros n) k *ℤ component z k) (λ k b. ap (λ x. x *ℤ component z k) (zero_at n k) ∙ zero-*ℤ (component z k)) in
+      let none = sum_below-zero (length (zeros n)) (λ k. component (zeros n) k *ℤ component z k)
+      (λ k b. ap (λ x. x *ℤ component z k) (zero_at n k) ∙ zero-*ℤ (component z k)) in
       omega (arith, ints);
 }

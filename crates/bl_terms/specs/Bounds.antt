@@ -1,4 +1,5 @@
--- Trusted. Proofs that the points of a box cost at least so much, or that no point of it meets the rows: weak duality of linear programs with
+-- Trusted. Proofs that the points of a box cost at least so much, or that no point of it meets the rows: weak duality
+-- of linear programs with
 -- bounded columns, and Farkas (1902) where the cost has no weight.
 use Rattle.std.specs.Prelude.{ℕ, ℤ, pos, ◌≡◌, ◌^◌, ◌<◌, ◌≤◌, ◌+ℤ◌, ◌-ℤ◌, ◌*ℤ◌, ◌≤ℤ◌, ◌<ℤ◌, List, [], ◌∷◌, length, map, slice_index_or, Option, Some, None, if◌then◌else◌, int_lt, ◌+◌, ◌*◌, FitsSigned}
 use Rattle.std.specs.Int.{w64, w128}
@@ -55,7 +56,9 @@ pub record Multipliers : Type 0 where
 
 -- the reduced cost of column j: den · c_j + sum over the rows of mult_i · a_ij
 abbrev pub reduced_cost : Problem → Multipliers → ℕ → ℤ
-reduced_cost q w j = w.den *ℤ component q.cost j +ℤ sum_below (length q.rows) (λ i. component w.mult i *ℤ component (linear_at q.rows i).coef j)
+reduced_cost q w j =
+    w.den *ℤ component q.cost j
+    +ℤ sum_below (length q.rows) (λ i. component w.mult i *ℤ component (linear_at q.rows i).coef j)
 
 -- the least value of a · x for x from lo to hi
 abbrev pub least_product : ℤ → ℤ → ℤ → ℤ
@@ -106,15 +109,18 @@ ProvesByParts q u nodes = Covers Anything (λ a w. Proves (over q a) u w) nodes 
 abbrev pub LeastProduct : Type 0
 LeastProduct =
     (a lo hi : ℤ) → lo ≤ℤ hi
-    → ((x : ℤ) → lo ≤ℤ x → x ≤ℤ hi → least_product a lo hi ≤ℤ (a *ℤ x)) × ((x : ℤ) × (lo ≤ℤ x) × (x ≤ℤ hi) × (least_product a lo hi ≡ a *ℤ x))
+    → ((x : ℤ) → lo ≤ℤ x → x ≤ℤ hi → least_product a lo hi ≤ℤ (a *ℤ x))
+    × ((x : ℤ) × (lo ≤ℤ x) × (x ≤ℤ hi) × (least_product a lo hi ≡ a *ℤ x))
 
 -- weak duality: every point of the box that meets the rows costs at least the proved cutoff
 abbrev pub WeakDuality : Type 0
-WeakDuality = (q : Problem) (u : ℤ) (w : Multipliers) (z : List ℤ) → IsProblem q → Proves q (Some u) w → IsPoint q z → u ≤ℤ dot q.cost z
+WeakDuality = (q : Problem) (u : ℤ) (w : Multipliers) (z : List ℤ) → IsProblem q → Proves q (Some u) w → IsPoint q z
+    → u ≤ℤ dot q.cost z
 
 -- a proof whose denominator is 0 shows that no point of the box meets the rows
 abbrev pub NoPoint : Type 0
-NoPoint = (q : Problem) (u : Option ℤ) (w : Multipliers) (z : List ℤ) → IsProblem q → Proves q u w → w.den ≡ pos 0 → ¬ IsPoint q z
+NoPoint = (q : Problem) (u : Option ℤ) (w : Multipliers) (z : List ℤ) → IsProblem q → Proves q u w → w.den ≡ pos 0
+    → ¬ IsPoint q z
 
 -- so does any proof without a cutoff
 abbrev pub NoCutoffNoPoint : Type 0
@@ -128,22 +134,27 @@ TreeOfProofs =
 
 -- and a tree of proofs without a cutoff shows that no point of the box meets the rows
 abbrev pub TreeOfRefusals : Type 0
-TreeOfRefusals = (q : Problem) (nodes : List (BareNode Multipliers)) (z : List ℤ) → IsProblem q → ProvesByParts q None nodes → ¬ IsPoint q z
+TreeOfRefusals = (q : Problem) (nodes : List (BareNode Multipliers)) (z : List ℤ) → IsProblem q
+    → ProvesByParts q None nodes → ¬ IsPoint q z
 
 -- the size of a reduced cost where the problem fits: 465 · 2^86 + 10^7 · 2^50
 abbrev pub reduced_cost_size : ℕ
 reduced_cost_size = MAX_PROBLEM_ROWS * (2 ^ 50 * MAX_PROBLEM_COEFFICIENT) + 2 ^ 50 * MAX_NUMBER
 
--- where the problem fits and the multipliers are from 0 to 2^50, every sum of a bound proof stays below 2^127, and so does each
--- product, which is one of its terms: the first rows' part of a reduced cost, the reduced cost, each side's product, the first columns' sum of least terms, the first rows' sum of right-hand sides, their
+-- where the problem fits and the multipliers are from 0 to 2^50, every sum of a bound proof stays below 2^127, and so
+-- does each
+-- product, which is one of its terms: the first rows' part of a reduced cost, the reduced cost, each side's product,
+-- the first columns' sum of least terms, the first rows' sum of right-hand sides, their
 -- difference, and den · (u - 1) for a cutoff of 64 bits
 pub record SumsFit (q : Problem) (w : Multipliers) : Type 0 where
-  pub rows_part : (j m : ℕ) → m ≤ length q.rows → FitsSigned w128 (sum_below m (λ i. component w.mult i *ℤ component (linear_at q.rows i).coef j))
+  pub rows_part : (j m : ℕ) → m ≤ length q.rows
+      → FitsSigned w128 (sum_below m (λ i. component w.mult i *ℤ component (linear_at q.rows i).coef j))
   pub reduced : (j : ℕ) → FitsSigned w128 (reduced_cost q w j)
   pub low_product : (j : ℕ) → FitsSigned w128 (reduced_cost q w j *ℤ component q.area.lo j)
   pub high_product : (j : ℕ) → FitsSigned w128 (reduced_cost q w j *ℤ component q.area.hi j)
   pub least_part : (n : ℕ) → n ≤ length q.area.lo → FitsSigned w128 (sum_below n (least_term q w))
-  pub rhs_part : (m : ℕ) → m ≤ length q.rows → FitsSigned w128 (sum_below m (λ i. component w.mult i *ℤ (linear_at q.rows i).rhs))
+  pub rhs_part : (m : ℕ) → m ≤ length q.rows
+      → FitsSigned w128 (sum_below m (λ i. component w.mult i *ℤ (linear_at q.rows i).rhs))
   pub bound : FitsSigned w128 (dual_bound q w)
   pub target : (u : ℤ) → FitsSigned w64 u → FitsSigned w128 (u -ℤ pos 1) × FitsSigned w128 (target_of (Some u) w)
 

@@ -1,4 +1,5 @@
--- Trusted. Small bilevel programs with their answers worked out by hand, and the facts on them that the definitions have to give.
+-- Trusted. Small bilevel programs with their answers worked out by hand, and the facts on them that the definitions
+-- have to give.
 use Rattle.std.specs.Prelude.{ℕ, ℤ, pos, negsuc, ◌≡◌, ◌≤ℤ◌, true, false, Some, List, [], ◌∷◌}
 use Rattle.bl_whole.specs.Sums.{dot}
 use Rattle.bl_terms.specs.Points.{Area}
@@ -30,13 +31,15 @@ blank = record {
   leader_sense = pos 1;
 }
 
--- Moore and Bard (1990): columns X and Y from 0 to 10, Y the follower's. The leader minimises -X - 10Y and the follower Y, over the
+-- Moore and Bard (1990): columns X and Y from 0 to 10, Y the follower's. The leader minimises -X - 10Y and the follower
+-- Y, over the
 -- follower's rows -25X + 20Y <= 30, X + 2Y <= 10, 2X - Y <= 15 and 2X + 10Y >= 15
 abbrev pub moore_bard : Program
 moore_bard = record blank {
   lo = pos 0 ∷ pos 0 ∷ [];
   hi = pos 10 ∷ pos 10 ∷ [];
-  rows = lower_row (negsuc 24 ∷ pos 20 ∷ []) (pos 30) ∷ lower_row (pos 1 ∷ pos 2 ∷ []) (pos 10) ∷ lower_row (pos 2 ∷ negsuc 0 ∷ []) (pos 15)
+  rows = lower_row (negsuc 24 ∷ pos 20 ∷ []) (pos 30) ∷ lower_row (pos 1 ∷ pos 2 ∷ []) (pos 10)
+      ∷ lower_row (pos 2 ∷ negsuc 0 ∷ []) (pos 15)
       ∷ lower_row (negsuc 1 ∷ negsuc 9 ∷ []) (negsuc 14) ∷ [];
   cost = negsuc 0 ∷ negsuc 9 ∷ [];
   follower_cost = pos 0 ∷ pos 1 ∷ [];
@@ -44,7 +47,8 @@ moore_bard = record blank {
   links = 0 ∷ [];
 }
 
--- X from 0 to 3 and Y, the follower's, from 0 to 5, with the follower's row Y - X <= 0. The leader minimises Y - 2X, and the follower
+-- X from 0 to 3 and Y, the follower's, from 0 to 5, with the follower's row Y - X <= 0. The leader minimises Y - 2X,
+-- and the follower
 -- maximises Y
 abbrev pub greatest_answer : Program
 greatest_answer = record blank {
@@ -66,7 +70,8 @@ least_answer = record greatest_answer { follower_cost = pos 0 ∷ pos 1 ∷ []; 
 abbrev pub leader_maximises : Program
 leader_maximises = record greatest_answer { leader_sense = negsuc 0 }
 
--- X, Y1 and Y2 from 0 to 1, Y1 and Y2 the follower's at no cost, with the leader's row Y1 + Y2 <= 1. The leader minimises -Y1 - Y2
+-- X, Y1 and Y2 from 0 to 1, Y1 and Y2 the follower's at no cost, with the leader's row Y1 + Y2 <= 1. The leader
+-- minimises -Y1 - Y2
 abbrev pub leader_chooses : Program
 leader_chooses = record blank {
   lo = pos 0 ∷ pos 0 ∷ pos 0 ∷ [];
@@ -119,7 +124,8 @@ half_row = record blank {
   follower = 1 ∷ [];
 }
 
--- X and Y from 0 to 1, Y the follower's, which minimises Y, with the follower's row Y - X <= 0. The leader minimises -X - 2Y
+-- X and Y from 0 to 1, Y the follower's, which minimises Y, with the follower's row Y - X <= 0. The leader minimises -X
+-- - 2Y
 abbrev pub one_cut : Program
 one_cut = record blank {
   lo = pos 0 ∷ pos 0 ∷ [];
@@ -143,7 +149,8 @@ three a b c = a ∷ b ∷ c ∷ []
 
 -- THE FACTS
 
--- Moore and Bard's program: (2, 2) is the only optimum, with -22. (2, 4) meets all rows and costs -42, but the follower would answer 2
+-- Moore and Bard's program: (2, 2) is the only optimum, with -22. (2, 4) meets all rows and costs -42, but the follower
+-- would answer 2
 pub record MooreBardFacts : Type 0 where
   pub optimum : IsOnlyOptimum moore_bard (two (pos 2) (pos 2)) (negsuc 21)
   pub follower : follower_at moore_bard (two (pos 2) (pos 2)) ≡ pos 2
@@ -151,7 +158,8 @@ pub record MooreBardFacts : Type 0 where
   pub vertex_cost : cost_at moore_bard (two (pos 2) (pos 4)) ≡ negsuc 41
   pub vertex : ¬ BilevelFeasible moore_bard (two (pos 2) (pos 4))
 
--- the follower's sense decides: where it maximises, (3, 3) is the only optimum, with -3; where it minimises, (3, 0), with -6
+-- the follower's sense decides: where it maximises, (3, 3) is the only optimum, with -3; where it minimises, (3, 0),
+-- with -6
 pub record SenseFacts : Type 0 where
   pub greatest : IsOnlyOptimum greatest_answer (two (pos 3) (pos 3)) (negsuc 2)
   pub least : IsOnlyOptimum least_answer (two (pos 3) (pos 0)) (negsuc 5)
@@ -161,15 +169,18 @@ pub record LeaderSenseFacts : Type 0 where
   pub program : IsProgram leader_maximises
   pub optimum : IsOnlyOptimum leader_maximises (two (pos 3) (pos 3)) (pos 3)
 
--- among equal optima of the follower the leader has the choice, and its rows may rule some of them out: (0, 0, 1) and (0, 1, 0) are
+-- among equal optima of the follower the leader has the choice, and its rows may rule some of them out: (0, 0, 1) and
+-- (0, 1, 0) are
 -- optimal with -1. (0, 1, 1) has the follower's least cost and is ruled out by the leader's row
 pub record ChoiceFacts : Type 0 where
   pub optimum : Optimal leader_chooses (three (pos 0) (pos 1) (pos 0)) (negsuc 0)
   pub another : Optimal leader_chooses (three (pos 1) (pos 0) (pos 1)) (negsuc 0)
-  pub reaches_least : MeetsLowerRows leader_chooses (three (pos 0) (pos 1) (pos 1)) × (follower_at leader_chooses (three (pos 0) (pos 1) (pos 1)) ≡ pos 0)
+  pub reaches_least : MeetsLowerRows leader_chooses (three (pos 0) (pos 1) (pos 1))
+      × (follower_at leader_chooses (three (pos 0) (pos 1) (pos 1)) ≡ pos 0)
   pub ruled_out : ¬ BilevelFeasible leader_chooses (three (pos 0) (pos 1) (pos 1))
 
--- a row of the leader doesn't change the follower's least cost: the follower answers 0, which the leader's row refuses at each point,
+-- a row of the leader doesn't change the follower's least cost: the follower answers 0, which the leader's row refuses
+-- at each point,
 -- so no point is bilevel feasible, though (0, 1) meets every row
 pub record RefusalFacts : Type 0 where
   pub rows : MeetsRows leader_refuses (two (pos 0) (pos 1))
@@ -198,7 +209,8 @@ split_at_one = Split 0 (pos 1) tt ∷ Leaf 0 ∷ Leaf 1 ∷ []
 -- one side has the numbers 0 and 1, the other 2 and 3
 pub record SplitFacts : Type 0 where
   pub tree : IsTree split_at_one four_numbers
-  pub parts : leaf_boxes split_at_one (four_numbers ∷ []) ≡ record { lo = one (pos 0); hi = one (pos 1) } ∷ record { lo = one (pos 2); hi = one (pos 3) } ∷ []
+  pub parts : leaf_boxes split_at_one (four_numbers ∷ []) ≡ record { lo = one (pos 0); hi = one (pos 1) }
+      ∷ record { lo = one (pos 2); hi = one (pos 3) } ∷ []
   pub points : point_count four_numbers ≡ 4
 
 -- the examples are programs, and keep the limits
@@ -221,12 +233,15 @@ weights d ms = record { den = d; mult = ms }
 abbrev pub four : ℤ → ℤ → ℤ → ℤ → List ℤ
 four a b c d = a ∷ b ∷ c ∷ d ∷ []
 
--- 4 times the first row and 135 times the second are 35 times the cost of Moore and Bard's program: they prove that no point costs
+-- 4 times the first row and 135 times the second are 35 times the cost of Moore and Bard's program: they prove that no
+-- point costs
 -- less than -42, and don't prove that of -41
 pub record BoundFacts : Type 0 where
   pub problem : IsProblem (relaxation moore_bard)
-  pub proved : Proves (relaxation moore_bard) (Some (negsuc 41)) (weights (pos 35) (four (pos 4) (pos 135) (pos 0) (pos 0)))
-  pub unproved : ¬ Proves (relaxation moore_bard) (Some (negsuc 40)) (weights (pos 35) (four (pos 4) (pos 135) (pos 0) (pos 0)))
+  pub proved : Proves (relaxation moore_bard) (Some (negsuc 41))
+      (weights (pos 35) (four (pos 4) (pos 135) (pos 0) (pos 0)))
+  pub unproved : ¬ Proves (relaxation moore_bard) (Some (negsuc 40))
+      (weights (pos 35) (four (pos 4) (pos 135) (pos 0) (pos 0)))
   pub bounded : (z : List ℤ) → IsPoint (relaxation moore_bard) z → negsuc 41 ≤ℤ dot moore_bard.cost z
 
 -- trees that prove the entries of Moore and Bard's program at the links 2, 0 and 9
@@ -235,7 +250,8 @@ tree_at_two = Leaf (weights (pos 10) (four (pos 0) (pos 0) (pos 0) (pos 1))) ∷
 
 abbrev pub tree_at_zero : List (BareNode Multipliers)
 tree_at_zero =
-    Split 0 (pos 1) tt ∷ Leaf (weights (pos 0) (four (pos 0) (pos 0) (pos 0) (pos 1))) ∷ Leaf (weights (pos 0) (four (pos 1) (pos 0) (pos 0) (pos 0))) ∷ []
+    Split 0 (pos 1) tt ∷ Leaf (weights (pos 0) (four (pos 0) (pos 0) (pos 0) (pos 1)))
+    ∷ Leaf (weights (pos 0) (four (pos 1) (pos 0) (pos 0) (pos 0))) ∷ []
 
 abbrev pub tree_at_nine : List (BareNode Multipliers)
 tree_at_nine = Leaf (weights (pos 0) (four (pos 0) (pos 1) (pos 2) (pos 0))) ∷ []

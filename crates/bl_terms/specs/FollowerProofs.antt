@@ -1,4 +1,5 @@
--- Trusted. Proofs of a link's entry: a tree over the box of the follower's columns whose leaves are closed by bound proofs.
+-- Trusted. Proofs of a link's entry: a tree over the box of the follower's columns whose leaves are closed by bound
+-- proofs.
 use Rattle.std.specs.Prelude.{ℤ, ◌≡◌, ◌-ℤ◌, ◌↔◌, List, [], ◌∷◌, Option, Some, None, if◌then◌else◌}
 use Rattle.bl_whole.specs.Sums.{dot}
 use Rattle.bl_terms.specs.Points.{Area, InArea, IsWithinArea, Linear, values_at}
@@ -22,9 +23,11 @@ follower_box p = record { lo = values_at p.lo p.follower; hi = values_at p.hi p.
 
 -- the follower's problem at the link l, over a box of its columns
 abbrev pub follower_problem : Program → List ℤ → Area → Problem
-follower_problem p l a = record { rows = follower_rows p l p.rows; cost = values_at p.follower_cost p.follower; area = a }
+follower_problem p l a =
+    record { rows = follower_rows p l p.rows; cost = values_at p.follower_cost p.follower; area = a }
 
--- the nodes are a tree over the follower's box, each leaf of which has a proof of the follower's problem over its box with the cutoff u
+-- the nodes are a tree over the follower's box, each leaf of which has a proof of the follower's problem over its box
+-- with the cutoff u
 abbrev pub ClosesFollower : Program → List ℤ → Option ℤ → List (BareNode Multipliers) → Type 0
 ClosesFollower p l u nodes = Covers Anything (λ a w. Proves (follower_problem p l a) u w) nodes (follower_box p ∷ [])
 
@@ -44,7 +47,8 @@ IsFollowerProof p l NoResponse nodes = ClosesFollower p l None nodes
 -- a follower proof implies that the entry is true
 abbrev pub FollowerProofLaw : Type 0
 FollowerProofLaw =
-    (p : Program) (l : List ℤ) (e : Entry) (nodes : List (BareNode Multipliers)) → IsProgram p → IsFollowerProof p l e nodes → IsTrueEntry p l e
+    (p : Program) (l : List ℤ) (e : Entry) (nodes : List (BareNode Multipliers)) → IsProgram p
+    → IsFollowerProof p l e nodes → IsTrueEntry p l e
 
 -- the points of the follower's problem over a part of the follower's box are the responses there
 abbrev pub FollowerPoints : Type 0

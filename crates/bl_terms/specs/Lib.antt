@@ -7,3 +7,4 @@ pub mod Bounds
 pub mod FollowerProofs
 pub mod EveryPoint
 pub mod Examples
+pub mod Codes

@@ -10,7 +10,8 @@ pub record Area : Type 0 where
 
 abbrev pub area_code : Coded Area
 area_code =
-    code_by (List ℤ × List ℤ) (coded× (coded_list coded_ℤ) (coded_list coded_ℤ)) (λ a. (a.lo, a.hi)) (λ p. record { lo = p.0; hi = p.1 }) (λ _. refl)
+    code_by (List ℤ × List ℤ) (coded× (coded_list coded_ℤ) (coded_list coded_ℤ)) (λ a. (a.lo, a.hi))
+    (λ p. record { lo = p.0; hi = p.1 }) (λ _. refl)
 
 -- an inequality: coef · z is at most rhs
 pub record Linear : Type 0 where
@@ -19,7 +20,8 @@ pub record Linear : Type 0 where
 
 abbrev pub linear_code : Coded Linear
 linear_code =
-    code_by (List ℤ × ℤ) (coded× (coded_list coded_ℤ) coded_ℤ) (λ r. (r.coef, r.rhs)) (λ p. record { coef = p.0; rhs = p.1 }) (λ _. refl)
+    code_by (List ℤ × ℤ) (coded× (coded_list coded_ℤ) coded_ℤ) (λ r. (r.coef, r.rhs))
+    (λ p. record { coef = p.0; rhs = p.1 }) (λ _. refl)
 
 -- both sides of a box have one number for each column, and no column's range is empty
 pub record IsArea (a : Area) : Type 0 where

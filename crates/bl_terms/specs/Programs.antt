@@ -1,4 +1,5 @@
--- Trusted. Bilevel integer programs with bounded columns, after Moore and Bard (1990) and Tahernejad, Ralphs and DeNegre (2020).
+-- Trusted. Bilevel integer programs with bounded columns, after Moore and Bard (1990) and Tahernejad, Ralphs and
+-- DeNegre (2020).
 use Rattle.std.specs.Prelude.{ℕ, zero, suc, ℤ, Bool, false, not, ◌&&◌, ◌||◌, if◌then◌else◌, ◌++◌, ◌∷◌, ◌*ℤ◌, pos, negsuc, ◌≡◌, ◌≢◌, ◌<◌, ◌≤◌, ◌⊎◌, ◌↔◌, List, [], length, slice_index_or, Contains, IsTrue, refl}
 use Rattle.std.specs.List.Sorted.{IsStrictlyIncreasing}
 use Rattle.std.specs.Ordering.{int_eq}
@@ -16,12 +17,16 @@ pub record Row : Type 0 where
 
 abbrev pub row_code : Coded Row
 row_code =
-    code_by (List ℤ × (ℤ × Bool)) (coded× (coded_list coded_ℤ) (coded× coded_ℤ coded_bool)) (λ r. (r.coef, (r.rhs, r.lower)))
+    code_by (List ℤ × (ℤ × Bool)) (coded× (coded_list coded_ℤ) (coded× coded_ℤ coded_bool))
+    (λ r. (r.coef, (r.rhs, r.lower)))
     (λ p. record { coef = p.0; rhs = p.1.0; lower = p.1.1 }) (λ _. refl)
 
--- a bilevel program. The numbers from lo to hi are each column's range. The leader minimises cost and the follower follower_cost.
--- follower has the places of the follower's columns, links those of the linking columns. sense is 1 where the follower's cost was
--- given to be minimised and -1 where it was given to be maximised, and leader_sense says the same of the leader's: where it is -1
+-- a bilevel program. The numbers from lo to hi are each column's range. The leader minimises cost and the follower
+-- follower_cost.
+-- follower has the places of the follower's columns, links those of the linking columns. sense is 1 where the
+-- follower's cost was
+-- given to be minimised and -1 where it was given to be maximised, and leader_sense says the same of the leader's:
+-- where it is -1
 -- the cost here is the negation of the given one
 pub record Program : Type 0 where
   pub lo : List ℤ
@@ -56,7 +61,10 @@ program_code =
     code_by ProgramParts
     (coded× (coded× area_code (coded_list row_code)) (coded× (coded× (coded_list coded_ℤ) (coded_list coded_ℤ))
     (coded× (coded× (coded_list coded_ℕ) (coded_list coded_ℕ)) (coded× coded_ℤ coded_ℤ))))
-    (λ p. ((record { lo = p.lo; hi = p.hi }, p.rows), ((p.cost, p.follower_cost), ((p.follower, p.links), (p.sense, p.leader_sense)))))
+    (λ p. (
+      (record { lo = p.lo; hi = p.hi }, p.rows),
+      ((p.cost, p.follower_cost), ((p.follower, p.links), (p.sense, p.leader_sense))),
+    ))
     program_of_parts
     (λ _. refl)
 
@@ -111,17 +119,21 @@ pub record IsLeader (p : Program) (k : ℕ) : Type 0 where
 
 -- some row of the follower has a coefficient other than 0 in column k
 abbrev pub IsInLower : Program → ℕ → Type 0
-IsInLower p k = (i : ℕ) × (i < length p.rows) × IsTrue (row_at p.rows i).lower × (component (row_at p.rows i).coef k ≢ pos 0)
+IsInLower p k = (i : ℕ) × (i < length p.rows) × IsTrue (row_at p.rows i).lower
+    × (component (row_at p.rows i).coef k ≢ pos 0)
 
--- the linking columns: exactly the leader's columns with a coefficient other than 0 in some row of the follower, in rising order
+-- the linking columns: exactly the leader's columns with a coefficient other than 0 in some row of the follower, in
+-- rising order
 pub record IsLinking (p : Program) : Type 0 where
   pub rising : IsStrictlyIncreasing p.links
   pub exact : (k : ℕ) → Contains p.links k ↔ (IsLeader p k × IsInLower p k)
 
--- the tests of these facts: some row of the follower among the first n has a coefficient other than 0 in column k; k links
+-- the tests of these facts: some row of the follower among the first n has a coefficient other than 0 in column k; k
+-- links
 abbrev pub is_in_lower : List Row → ℕ → ℕ → Bool
 is_in_lower rows zero k = false
-is_in_lower rows (suc n) k = is_in_lower rows n k || ((row_at rows n).lower && not (int_eq (component (row_at rows n).coef k) (pos 0)))
+is_in_lower rows (suc n) k =
+    is_in_lower rows n k || ((row_at rows n).lower && not (int_eq (component (row_at rows n).coef k) (pos 0)))
 
 abbrev pub is_linking : List ℕ → List Row → ℕ → Bool
 is_linking follower rows k = not (is_among k follower) && is_in_lower rows (length rows) k
@@ -151,7 +163,8 @@ pub record SameLead (p : Program) (z z' : List ℤ) : Type 0 where
 abbrev pub IsSense : ℤ → Type 0
 IsSense z = (z ≡ pos 1) ⊎ (z ≡ negsuc 0)
 
--- a program whose parts fit together: every list has one number for each column, no column's range is empty, the follower's
+-- a program whose parts fit together: every list has one number for each column, no column's range is empty, the
+-- follower's
 -- columns rise and are columns, the follower's cost is 0 on the leader's columns, and links has the linking columns
 pub record IsProgram (p : Program) : Type 0 where
   pub box : IsArea (root p)

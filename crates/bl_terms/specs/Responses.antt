@@ -1,4 +1,5 @@
--- Trusted. What the follower can answer to the values of the linking columns, and what is true of its least cost: the second-stage problem of
+-- Trusted. What the follower can answer to the values of the linking columns, and what is true of its least cost: the
+-- second-stage problem of
 -- DeNegre and Ralphs (2009), over the linking columns of Tahernejad, Ralphs and DeNegre (2020).
 use Rattle.std.specs.Prelude.{ℕ, ℤ, ◌≡◌, ◌<◌, ◌+ℤ◌, ◌≤ℤ◌, ◌↔◌, List, length, slice_index, IsTrue}
 use Rattle.bl_whole.specs.Sums.{component, dot}
@@ -20,11 +21,13 @@ IsLink p l = InRanges p p.links l
 abbrev pub lhs_of : Program → Row → List ℤ → List ℤ → ℤ
 lhs_of p r l y = dot (values_at r.coef p.links) l +ℤ dot (values_at r.coef p.follower) y
 
--- y is a response to l: it gives each of the follower's columns a value in its range, and meets each row of the follower with l
+-- y is a response to l: it gives each of the follower's columns a value in its range, and meets each row of the
+-- follower with l
 -- on the linking columns
 pub record IsResponse (p : Program) (l y : List ℤ) : Type 0 where
   pub ranges : InRanges p p.follower y
-  pub rows : (i : ℕ) → i < length p.rows → IsTrue (row_at p.rows i).lower → lhs_of p (row_at p.rows i) l y ≤ℤ (row_at p.rows i).rhs
+  pub rows : (i : ℕ) → i < length p.rows → IsTrue (row_at p.rows i).lower
+      → lhs_of p (row_at p.rows i) l y ≤ℤ (row_at p.rows i).rhs
 
 -- the follower's cost of a response
 abbrev pub response_cost : Program → List ℤ → ℤ
@@ -62,16 +65,19 @@ OptimumOfLink =
 -- where the link's entry is true, a best response's cost is the follower's optimum
 abbrev pub EntryIsOptimum : Type 0
 EntryIsOptimum =
-    (p : Program) (z y : List ℤ) (v : ℤ) → IsProgram p → InBox p z → IsBest p (link_of p z) y v → IsFollowerOptimum p z v
+    (p : Program) (z y : List ℤ) (v : ℤ) → IsProgram p → InBox p z → IsBest p (link_of p z) y v
+    → IsFollowerOptimum p z v
 
 -- where the link has no response, no point with that link meets the follower's rows
 abbrev pub NoResponseNoPoint : Type 0
 NoResponseNoPoint =
     (p : Program) (z : List ℤ) → IsProgram p → InBox p z → IsTrueEntry p (link_of p z) NoResponse → ¬ MeetsLowerRows p z
 
--- where the link's entry is Best with the cost v, a point that lies in the box and meets the rows is bilevel feasible exactly where
+-- where the link's entry is Best with the cost v, a point that lies in the box and meets the rows is bilevel feasible
+-- exactly where
 -- its follower's cost is v, and exactly where it is at most v
 abbrev pub EntryLaw : Type 0
 EntryLaw =
-    (p : Program) (z y : List ℤ) (v : ℤ) → IsProgram p → InBox p z → MeetsRows p z → IsTrueEntry p (link_of p z) (Best y v)
+    (p : Program) (z y : List ℤ) (v : ℤ) → IsProgram p → InBox p z → MeetsRows p z
+    → IsTrueEntry p (link_of p z) (Best y v)
     → (BilevelFeasible p z ↔ (follower_at p z ≡ v)) × (BilevelFeasible p z ↔ (follower_at p z ≤ℤ v))

@@ -1,4 +1,5 @@
--- Trusted. Branch-and-bound trees that split a box (Land and Doig 1960), generic in what a split and a leaf hand in: lists of nodes
+-- Trusted. Branch-and-bound trees that split a box (Land and Doig 1960), generic in what a split and a leaf hand in:
+-- lists of nodes
 -- in preorder over a stack of the boxes that are still to be closed.
 use Rattle.std.specs.Prelude.{ℕ, ℤ, pos, ◌≡◌, ◌+◌, ◌*◌, ◌<◌, ◌≤◌, ◌+ℤ◌, ◌-ℤ◌, ◌≤ℤ◌, ◌<ℤ◌, zero, suc, Bool, IsTrue, ◌⊎◌, List, [], ◌∷◌, length, slice_set, slice_index_or, unsigned_abs}
 use Rattle.bl_whole.specs.Sums.{component}
@@ -30,7 +31,8 @@ pub record CanSplit (a : Area) (j : ℕ) (v : ℤ) : Type 0 where
   pub least : component a.lo j ≤ℤ v
   pub below : v <ℤ component a.hi j
 
--- the nodes are trees over the boxes of the stack, one for each in their order; each split can be made and is shown by what it
+-- the nodes are trees over the boxes of the stack, one for each in their order; each split can be made and is shown by
+-- what it
 -- hands in, and each leaf closes its box
 abbrev pub Covers : {S L : Type 0} → (Area → S → Type 0) → (Area → L → Type 0) → List (Node S L) → List Area → Type 0
 Covers splits closes [] [] = Unit {0}
@@ -40,9 +42,11 @@ Covers splits closes (Leaf x ∷ ns) (a ∷ stack) = closes a x × Covers splits
 Covers splits closes (Split j v s ∷ ns) (a ∷ stack) =
     (CanSplit a j v × splits a s) × Covers splits closes ns (low_half a j v ∷ high_half a j v ∷ stack)
 
--- k is the place of the first node in preorder that fails. A list that ends early fails at its length, and one that goes on after
+-- k is the place of the first node in preorder that fails. A list that ends early fails at its length, and one that
+-- goes on after
 -- the last tree at its first surplus node
-abbrev pub FailsFirst : {S L : Type 0} → (Area → S → Type 0) → (Area → L → Type 0) → List (Node S L) → List Area → ℕ → Type 0
+abbrev pub FailsFirst : {S L : Type 0} → (Area → S → Type 0) → (Area → L → Type 0) → List (Node S L) → List Area → ℕ
+    → Type 0
 FailsFirst splits closes [] [] k = ⊥
 FailsFirst splits closes [] (a ∷ stack) k = k ≡ 0
 FailsFirst splits closes (n ∷ ns) [] k = k ≡ 0
@@ -104,10 +108,13 @@ LeavesAtMostPoints S L =
     (nodes : List (Node S L)) (a : Area) → IsTree nodes a → IsArea a
     → (length (leaf_boxes nodes (a ∷ [])) ≤ point_count a) × (length nodes + 1 ≡ 2 * length (leaf_boxes nodes (a ∷ [])))
 
--- where tests decide what splits and leaves show, the nodes are trees over the boxes or fail first at one place, and never both
-pub record OneVerdict (S L : Type 0) (nodes : List (Node S L)) (stack : List Area) (splits : Area → S → Bool) (closes : Area → L → Bool) : Type 0 where
+-- where tests decide what splits and leaves show, the nodes are trees over the boxes or fail first at one place, and
+-- never both
+pub record OneVerdict (S L : Type 0) (nodes : List (Node S L)) (stack : List Area) (splits : Area → S → Bool)
+    (closes : Area → L → Bool) : Type 0 where
   pub one : Covers (λ a s. IsTrue (splits a s)) (λ a x. IsTrue (closes a x)) nodes stack
-      ⊎ ((k : ℕ) × (k ≤ length nodes) × FailsFirst (λ a s. IsTrue (splits a s)) (λ a x. IsTrue (closes a x)) nodes stack k)
+      ⊎ ((k : ℕ) × (k ≤ length nodes)
+      × FailsFirst (λ a s. IsTrue (splits a s)) (λ a x. IsTrue (closes a x)) nodes stack k)
   pub apart : (k : ℕ) → Covers (λ a s. IsTrue (splits a s)) (λ a x. IsTrue (closes a x)) nodes stack
       → ¬ FailsFirst (λ a s. IsTrue (splits a s)) (λ a x. IsTrue (closes a x)) nodes stack k
   pub alone : (k k' : ℕ) → FailsFirst (λ a s. IsTrue (splits a s)) (λ a x. IsTrue (closes a x)) nodes stack k
@@ -115,4 +122,5 @@ pub record OneVerdict (S L : Type 0) (nodes : List (Node S L)) (stack : List Are
 
 abbrev pub CoversOrFails : Type 0 → Type 0 → Type 0
 CoversOrFails S L =
-    (nodes : List (Node S L)) (stack : List Area) (splits : Area → S → Bool) (closes : Area → L → Bool) → OneVerdict S L nodes stack splits closes
+    (nodes : List (Node S L)) (stack : List Area) (splits : Area → S → Bool) (closes : Area → L → Bool)
+    → OneVerdict S L nodes stack splits closes

@@ -31,19 +31,25 @@ same_from_test [] (j ∷ js) h = cc
 same_from_test (i ∷ is) [] h = cc
 same_from_test (i ∷ is) (j ∷ js) h = by (λ g. same_from_test is js g) (nat_eq i j) refl h
   where
-    by : (same_factors is js ≡ true → is ≡ js) → (t : Bool) → nat_eq i j ≡ t → (t && same_factors is js) ≡ true → (i ∷ is) ≡ (j ∷ js)
+    by : (same_factors is js ≡ true → is ≡ js) → (t : Bool) → nat_eq i j ≡ t → (t && same_factors is js) ≡ true
+        → (i ∷ is) ≡ (j ∷ js)
     by rest true e g = let r = rest g in let s = eqb-true i j e in cc
     by rest false e g = cc
 
-with_factor_value : (vs : List ℤ) (k : ℕ) (js : List ℕ) → factors_value vs (with_factor k js) ≡ component vs k *ℤ factors_value vs js
+with_factor_value : (vs : List ℤ) (k : ℕ) (js : List ℕ)
+    → factors_value vs (with_factor k js) ≡ component vs k *ℤ factors_value vs js
 with_factor_value vs k [] = refl
 with_factor_value vs k (j ∷ js) = by (with_factor_value vs k js) (nat_le k j)
   where
-    by : factors_value vs (with_factor k js) ≡ component vs k *ℤ factors_value vs js → (t : Bool) → factors_value vs (cond t (k ∷ j ∷ js) (j ∷ with_factor k js)) ≡ component vs k *ℤ (component vs j *ℤ factors_value vs js)
+    by : factors_value vs (with_factor k js) ≡ component vs k *ℤ factors_value vs js → (t : Bool)
+        → factors_value vs (cond t (k ∷ j ∷ js) (j ∷ with_factor k js)) ≡ component vs k
+        *ℤ (component vs j *ℤ factors_value vs js)
     by rest true = refl
-    by rest false = ap (λ x. component vs j *ℤ x) rest ∙ swap_factors (component vs j) (component vs k) (factors_value vs js)
+    by rest false = ap (λ x. component vs j *ℤ x) rest
+        ∙ swap_factors (component vs j) (component vs k) (factors_value vs js)
 
-with_factors_value : (vs : List ℤ) (is js : List ℕ) → factors_value vs (with_factors is js) ≡ factors_value vs is *ℤ factors_value vs js
+with_factors_value : (vs : List ℤ) (is js : List ℕ)
+    → factors_value vs (with_factors is js) ≡ factors_value vs is *ℤ factors_value vs js
 with_factors_value vs [] js = sym (one-*ℤ (factors_value vs js))
 with_factors_value vs (i ∷ is) js =
     with_factor_value vs i (with_factors is js) ∙ ap (λ x. component vs i *ℤ x) (with_factors_value vs is js)
@@ -53,22 +59,31 @@ zero_from_test : (c : ℤ) → is_zero c ≡ true → c ≡ pos 0
 zero_from_test (pos n) h = ap pos (eqb-true n 0 h)
 zero_from_test (negsuc n) h = cc
 
-in_front_value : (vs : List ℤ) (m : Monomial) (ms : List Monomial) → sum_value vs (in_front m ms) ≡ monomial_value vs m +ℤ sum_value vs ms
+in_front_value : (vs : List ℤ) (m : Monomial) (ms : List Monomial)
+    → sum_value vs (in_front m ms) ≡ monomial_value vs m +ℤ sum_value vs ms
 in_front_value vs m ms = by (is_zero m.coefficient) refl
   where
-    by : (t : Bool) → is_zero m.coefficient ≡ t → sum_value vs (cond t ms (m ∷ ms)) ≡ monomial_value vs m +ℤ sum_value vs ms
+    by : (t : Bool) → is_zero m.coefficient ≡ t
+        → sum_value vs (cond t ms (m ∷ ms)) ≡ monomial_value vs m +ℤ sum_value vs ms
     by true e =
         let z = zero_from_test m.coefficient e in
-        let f : monomial_value vs m ≡ pos 0 = ap (λ x. x *ℤ factors_value vs m.factors) z ∙ zero-*ℤ (factors_value vs m.factors) in
+        let f : monomial_value vs m ≡ pos 0 =
+        ap (λ x. x *ℤ factors_value vs m.factors) z ∙ zero-*ℤ (factors_value vs m.factors) in
         omega (arith, ints)
     by false e = refl
 
-with_monomial_value : (vs : List ℤ) (m : Monomial) (ns : List Monomial) → sum_value vs (with_monomial m ns) ≡ monomial_value vs m +ℤ sum_value vs ns
+with_monomial_value : (vs : List ℤ) (m : Monomial) (ns : List Monomial)
+    → sum_value vs (with_monomial m ns) ≡ monomial_value vs m +ℤ sum_value vs ns
 with_monomial_value vs m [] = in_front_value vs m []
 with_monomial_value vs m (n ∷ ns) =
     by (with_monomial_value vs m ns) (same_factors m.factors n.factors) refl (comes_before m.factors n.factors)
   where
-    by : sum_value vs (with_monomial m ns) ≡ monomial_value vs m +ℤ sum_value vs ns → (t : Bool) → same_factors m.factors n.factors ≡ t → (u : Bool) → sum_value vs (cond t (in_front (record { factors = n.factors; coefficient = m.coefficient +ℤ n.coefficient }) ns) (cond u (in_front m (n ∷ ns)) (n ∷ with_monomial m ns))) ≡ monomial_value vs m +ℤ (monomial_value vs n +ℤ sum_value vs ns)
+    by : sum_value vs (with_monomial m ns) ≡ monomial_value vs m +ℤ sum_value vs ns → (t : Bool)
+        → same_factors m.factors n.factors ≡ t → (u : Bool)
+        → sum_value vs (cond t
+        (in_front (record { factors = n.factors; coefficient = m.coefficient +ℤ n.coefficient }) ns)
+        (cond u (in_front m (n ∷ ns)) (n ∷ with_monomial m ns))) ≡ monomial_value vs m
+        +ℤ (monomial_value vs n +ℤ sum_value vs ns)
     by rest true e u =
         let s = ap (λ x. m.coefficient *ℤ factors_value vs x) (same_from_test m.factors n.factors e) in
         let f = in_front_value vs (record { factors = n.factors; coefficient = m.coefficient +ℤ n.coefficient }) ns in
@@ -77,7 +92,8 @@ with_monomial_value vs m (n ∷ ns) =
     by rest false e true = in_front_value vs m (n ∷ ns)
     by rest false e false = omega (arith, ints)
 
-monomial_sum_value : (vs : List ℤ) (ms ns : List Monomial) → sum_value vs (monomial_sum ms ns) ≡ sum_value vs ms +ℤ sum_value vs ns
+monomial_sum_value : (vs : List ℤ) (ms ns : List Monomial)
+    → sum_value vs (monomial_sum ms ns) ≡ sum_value vs ms +ℤ sum_value vs ns
 monomial_sum_value vs [] ns = omega (arith, ints)
 monomial_sum_value vs (m ∷ ms) ns =
     let i = monomial_sum_value vs ms ns in
@@ -88,17 +104,21 @@ monomial_sum_value vs (m ∷ ms) ns =
 exchange_factors : (a b c d : ℤ) → (a *ℤ b) *ℤ (c *ℤ d) ≡ (a *ℤ c) *ℤ (b *ℤ d)
 exchange_factors a b c d = *ℤ_assoc a b (c *ℤ d) ∙ ap (λ x. a *ℤ x) (swap_factors b c d) ∙ sym (*ℤ_assoc a c (b *ℤ d))
 
-multiples_value : (vs : List ℤ) (m : Monomial) (ns : List Monomial) → sum_value vs (multiples m ns) ≡ monomial_value vs m *ℤ sum_value vs ns
+multiples_value : (vs : List ℤ) (m : Monomial) (ns : List Monomial)
+    → sum_value vs (multiples m ns) ≡ monomial_value vs m *ℤ sum_value vs ns
 multiples_value vs m [] = sym (*ℤ-zero (monomial_value vs m))
 multiples_value vs m (n ∷ ns) =
     let i = multiples_value vs m ns in
-    let f = with_monomial_value vs (record { factors = with_factors m.factors n.factors; coefficient = m.coefficient *ℤ n.coefficient }) (multiples m ns) in
+    let f = with_monomial_value vs
+    (record { factors = with_factors m.factors n.factors; coefficient = m.coefficient *ℤ n.coefficient })
+    (multiples m ns) in
     let e = ap (λ x. (m.coefficient *ℤ n.coefficient) *ℤ x) (with_factors_value vs m.factors n.factors) in
     let g = exchange_factors m.coefficient n.coefficient (factors_value vs m.factors) (factors_value vs n.factors) in
     let d = *ℤ-+ℤ (monomial_value vs m) (monomial_value vs n) (sum_value vs ns) in
     omega (arith, ints)
 
-monomial_product_value : (vs : List ℤ) (ms ns : List Monomial) → sum_value vs (monomial_product ms ns) ≡ sum_value vs ms *ℤ sum_value vs ns
+monomial_product_value : (vs : List ℤ) (ms ns : List Monomial)
+    → sum_value vs (monomial_product ms ns) ≡ sum_value vs ms *ℤ sum_value vs ns
 monomial_product_value vs [] ns = sym (zero-*ℤ (sum_value vs ns))
 monomial_product_value vs (m ∷ ms) ns =
     let i = monomial_product_value vs ms ns in
@@ -123,9 +143,11 @@ normal_form_value vs (plus p q) =
     let j = normal_form_value vs q in
     omega (arith, ints)
 normal_form_value vs (minus p q) =
-    let f = monomial_sum_value vs (normal_form p) (multiples (record { factors = []; coefficient = negsuc 0 }) (normal_form q)) in
+    let f = monomial_sum_value vs (normal_form p)
+    (multiples (record { factors = []; coefficient = negsuc 0 }) (normal_form q)) in
     let g = multiples_value vs (record { factors = []; coefficient = negsuc 0 }) (normal_form q) in
-    let d : (negsuc 0 *ℤ pos 1) *ℤ sum_value vs (normal_form q) ≡ neg_ℤ (pos 1 *ℤ sum_value vs (normal_form q)) = neg_ℤ-*ℤ (pos 1) (sum_value vs (normal_form q)) in
+    let d : (negsuc 0 *ℤ pos 1) *ℤ sum_value vs (normal_form q) ≡ neg_ℤ (pos 1 *ℤ sum_value vs (normal_form q)) =
+    neg_ℤ-*ℤ (pos 1) (sum_value vs (normal_form q)) in
     let o = one-*ℤ (sum_value vs (normal_form q)) in
     let i = normal_form_value vs p in
     let j = normal_form_value vs q in
@@ -145,4 +167,5 @@ square_of_sum : (a b : ℤ) → (a +ℤ b) *ℤ (a +ℤ b) ≡ a *ℤ a +ℤ pos
 square_of_sum a b =
     let x = variable 0 in
     let y = variable 1 in
-    identity (a ∷ b ∷ []) (times (plus x y) (plus x y)) (plus (plus (times x x) (times (constant (pos 2)) (times x y))) (times y y)) refl
+    identity (a ∷ b ∷ []) (times (plus x y) (plus x y))
+    (plus (plus (times x x) (times (constant (pos 2)) (times x y))) (times y y)) refl

@@ -57,7 +57,14 @@ pub *ℤ_assoc : (a b c : ℤ) → (a *ℤ b) *ℤ c ≡ a *ℤ (b *ℤ c)
 *ℤ_assoc (pos (suc n)) b c =
     rw (suc_ℤ-*ℤ (pos n) b, suc_ℤ-*ℤ (pos n) (b *ℤ c), +ℤ-*ℤ (pos n *ℤ b) b c, *ℤ_assoc (pos n) b c) refl
 *ℤ_assoc (negsuc zero) b c =
-    rw (pred_ℤ-*ℤ (pos zero) b, pred_ℤ-*ℤ (pos zero) (b *ℤ c), -ℤ-*ℤ (pos zero *ℤ b) b c, zero-*ℤ b, zero-*ℤ c, zero-*ℤ (b *ℤ c)) refl
+    rw (
+      pred_ℤ-*ℤ (pos zero) b,
+      pred_ℤ-*ℤ (pos zero) (b *ℤ c),
+      -ℤ-*ℤ (pos zero *ℤ b) b c,
+      zero-*ℤ b,
+      zero-*ℤ c,
+      zero-*ℤ (b *ℤ c),
+    ) refl
 *ℤ_assoc (negsuc (suc n)) b c =
     rw (pred_ℤ-*ℤ (negsuc n) b, pred_ℤ-*ℤ (negsuc n) (b *ℤ c), -ℤ-*ℤ (negsuc n *ℤ b) b c, *ℤ_assoc (negsuc n) b c) refl
 

@@ -49,7 +49,8 @@ sum_below-split m zero f = rw (add-zero m) (omega (arith, ints))
 sum_below-split m (suc n) f = rw (add-suc m n) (let i = sum_below-split m n f in omega (arith, ints))
 
 -- rows of columns, or columns of rows
-pub sum_below-exchange : (m n : ℕ) (f : ℕ → ℕ → ℤ) → sum_below m (λ i. sum_below n (λ j. f i j)) ≡ sum_below n (λ j. sum_below m (λ i. f i j))
+pub sum_below-exchange : (m n : ℕ) (f : ℕ → ℕ → ℤ)
+    → sum_below m (λ i. sum_below n (λ j. f i j)) ≡ sum_below n (λ j. sum_below m (λ i. f i j))
 sum_below-exchange zero n f = sym (sum_below-zero n (λ _. pos 0) (λ k b. refl))
 sum_below-exchange (suc m) n f =
     let i = sum_below-exchange m n f in
@@ -97,7 +98,8 @@ sum_below_isolate (suc n) k f h =
     ]
 
 -- each number of xs is below each later one
-pub rising_pairs : (xs : List ℕ) → IsStrictlyIncreasing xs → (i j : ℕ) → i < j → j < length xs → slice_index xs i < slice_index xs j
+pub rising_pairs : (xs : List ℕ) → IsStrictlyIncreasing xs → (i j : ℕ) → i < j → j < length xs
+    → slice_index xs i < slice_index xs j
 rising_pairs xs h i zero a b = absurd (omega arith)
 rising_pairs xs h i (suc j) a b =
     let e = add-one j in
@@ -122,8 +124,10 @@ pub Contains-cases : (k j : ℕ) (ks : List ℕ) → Contains (k ∷ ks) j → (
 Contains-cases k j ks (zero, b, e) = inl (sym e)
 Contains-cases k j ks (suc i, b, e) = inr (i, omega (arith, b), e)
 
-picked_from_pairs : (n : ℕ) (ks : List ℕ) (f : ℕ → ℤ) → ((i j : ℕ) → i < j → j < length ks → slice_index ks i < slice_index ks j)
-    → ((k : ℕ) → Contains ks k → k < n) → ((k : ℕ) → k < n → ¬ Contains ks k → f k ≡ pos 0) → sum_below n f ≡ sum_over ks f
+picked_from_pairs : (n : ℕ) (ks : List ℕ) (f : ℕ → ℤ)
+    → ((i j : ℕ) → i < j → j < length ks → slice_index ks i < slice_index ks j)
+    → ((k : ℕ) → Contains ks k → k < n) → ((k : ℕ) → k < n → ¬ Contains ks k → f k ≡ pos 0)
+    → sum_below n f ≡ sum_over ks f
 picked_from_pairs n [] f rise below rest = sum_below-zero n f (λ k b. rest k b (λ c. absurd (omega (arith, c.1))))
 picked_from_pairs n (k ∷ ks) f rise below rest =
     let first = sum_below_isolate n k f (below k (Contains-here k ks)) in
@@ -132,7 +136,8 @@ picked_from_pairs n (k ∷ ks) f rise below rest =
     (λ j c. below j (Contains-there k j ks c))
     (λ j b no. elim (cases_eq j k) [
       | inl e ↦ rw e (without-same k f)
-      | inr ne ↦ without-other k j f ne ∙ rest j b (λ c. elim (Contains-cases k j ks c) [ inl e ↦ ne e | inr c' ↦ no c' ])
+      | inr ne ↦ without-other k j f ne
+          ∙ rest j b (λ c. elim (Contains-cases k j ks c) [ inl e ↦ ne e | inr c' ↦ no c' ])
     ]) in
     let same : sum_over ks (without k f) ≡ sum_over ks f =
     sum_below-agree (length ks) (λ j. without k f (slice_index ks j)) (λ j. f (slice_index ks j))

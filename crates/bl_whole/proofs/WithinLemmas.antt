@@ -48,7 +48,10 @@ within_negation {m} {a} p =
 
 pub within_product : {m n : ℕ} {a b : ℤ} → IsWithin m a → IsWithin n b → IsWithin (m * n) (a *ℤ b)
 within_product {m} {n} {a} {b} p q =
-    record { magnitude = rw (unsigned_abs-mul a b) (mul-le (unsigned_abs a) (unsigned_abs b) m n p.magnitude q.magnitude) }
+    record {
+      magnitude =
+          rw (unsigned_abs-mul a b) (mul-le (unsigned_abs a) (unsigned_abs b) m n p.magnitude q.magnitude);
+    }
 
 -- n summands of one size
 pub within_sum_below : (m n : ℕ) (f : ℕ → ℤ) → ((k : ℕ) → k < n → IsWithin m (f k)) → IsWithin (n * m) (sum_below n f)
@@ -60,10 +63,12 @@ within_sum_below m (suc n) f h =
 pub fits_from_within : (w : Width) {m : ℕ} {z : ℤ} → IsWithin m z → m < 2 ^ hbits w → FitsSigned w z
 fits_from_within w {m} {z} h b = let a = h.magnitude in fits_signed_from_abs w z (omega arith)
 
-pub sum_fits : (w : Width) {m n : ℕ} {a b : ℤ} → IsWithin m a → IsWithin n b → m + n < 2 ^ hbits w → FitsSigned w (a +ℤ b)
+pub sum_fits : (w : Width) {m n : ℕ} {a b : ℤ} → IsWithin m a → IsWithin n b → m + n < 2 ^ hbits w
+    → FitsSigned w (a +ℤ b)
 sum_fits w p q h = fits_from_within w (within_sum p q) h
 
-pub product_fits : (w : Width) {m n : ℕ} {a b : ℤ} → IsWithin m a → IsWithin n b → m * n < 2 ^ hbits w → FitsSigned w (a *ℤ b)
+pub product_fits : (w : Width) {m n : ℕ} {a b : ℤ} → IsWithin m a → IsWithin n b → m * n < 2 ^ hbits w
+    → FitsSigned w (a *ℤ b)
 product_fits w p q h = fits_from_within w (within_product p q) h
 
 -- what a width holds has its size
@@ -80,15 +85,19 @@ within_entry {m} {xs} h k =
     ]
 
 -- a sum of products by place
-pub within_dot : {m n : ℕ} {cs zs : List ℤ} → AreWithin m cs → AreWithin n zs → IsWithin (length cs * (m * n)) (dot cs zs)
+pub within_dot : {m n : ℕ} {cs zs : List ℤ} → AreWithin m cs → AreWithin n zs
+    → IsWithin (length cs * (m * n)) (dot cs zs)
 within_dot {m} {n} {cs} {zs} p q =
-    within_sum_below (m * n) (length cs) (λ k. component cs k *ℤ component zs k) (λ k b. within_product (within_entry p k) (within_entry q k))
+    within_sum_below (m * n) (length cs) (λ k. component cs k *ℤ component zs k)
+    (λ k b. within_product (within_entry p k) (within_entry q k))
 
 -- its first places fit a width that all of them fit
-pub dots_fit : (w : Width) {m n : ℕ} {cs zs : List ℤ} → AreWithin m cs → AreWithin n zs → length cs * (m * n) < 2 ^ hbits w → PartialDotsFit w cs zs
+pub dots_fit : (w : Width) {m n : ℕ} {cs zs : List ℤ} → AreWithin m cs → AreWithin n zs
+    → length cs * (m * n) < 2 ^ hbits w → PartialDotsFit w cs zs
 dots_fit w {m} {n} {cs} {zs} p q h = record {
   each = λ k le.
       fits_from_within w
-      (within_sum_below (m * n) k (λ j. component cs j *ℤ component zs j) (λ j b. within_product (within_entry p j) (within_entry q j)))
+      (within_sum_below (m * n) k (λ j. component cs j *ℤ component zs j)
+      (λ j b. within_product (within_entry p j) (within_entry q j)))
       (lt_of_le_of_lt (mul-le-mul_right (m * n) le) h);
 }

@@ -69,7 +69,8 @@ monomial_sum (m ∷ ms) ns = with_monomial m (monomial_sum ms ns)
 abbrev pub multiples : Monomial → List Monomial → List Monomial
 multiples m [] = []
 multiples m (n ∷ ns) =
-    with_monomial (record { factors = with_factors m.factors n.factors; coefficient = m.coefficient *ℤ n.coefficient }) (multiples m ns)
+    with_monomial (record { factors = with_factors m.factors n.factors; coefficient = m.coefficient *ℤ n.coefficient })
+    (multiples m ns)
 
 abbrev pub monomial_product : List Monomial → List Monomial → List Monomial
 monomial_product [] ns = []
@@ -80,7 +81,8 @@ abbrev pub normal_form : Polynomial → List Monomial
 normal_form (variable k) = record { factors = k ∷ []; coefficient = pos 1 } ∷ []
 normal_form (constant c) = in_front (record { factors = []; coefficient = c }) []
 normal_form (plus p q) = monomial_sum (normal_form p) (normal_form q)
-normal_form (minus p q) = monomial_sum (normal_form p) (multiples (record { factors = []; coefficient = negsuc 0 }) (normal_form q))
+normal_form (minus p q) =
+    monomial_sum (normal_form p) (multiples (record { factors = []; coefficient = negsuc 0 }) (normal_form q))
 normal_form (times p q) = monomial_product (normal_form p) (normal_form q)
 
 -- two polynomials with one normal form have one value

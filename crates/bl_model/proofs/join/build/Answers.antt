@@ -45,24 +45,38 @@ made c =
       lo = c.in_ok-lows.ensures ∙ ap (map (λ (r : RawColumn). r.lo)) columns-are;
       hi = c.in_ok-highs.ensures ∙ ap (map (λ (r : RawColumn). r.hi)) columns-are;
       rows =
-          c.in_ok-rows.ensures ∙ ap (λ (cs : List RawColumn). rows_from cs c.as_slice-lower_rows.result.now 0 c.as_slice-text_rows.result.now) columns-are
-          ∙ ap (λ (lower : List _). rows_from mps.columns lower 0 c.as_slice-text_rows.result.now) c.as_slice-lower_rows.ensures
+          c.in_ok-rows.ensures
+          ∙ ap (λ (cs : List RawColumn). rows_from cs c.as_slice-lower_rows.result.now 0
+          c.as_slice-text_rows.result.now) columns-are
+          ∙ ap (λ (lower : List _). rows_from mps.columns lower 0 c.as_slice-text_rows.result.now)
+          c.as_slice-lower_rows.ensures
           ∙ ap (λ (rows : List RawRow). rows_from mps.columns aux.rows 0 rows) c.as_slice-text_rows.ensures;
       cost = c.in_ok-costs.ensures ∙ ap (map (λ (r : RawColumn). r.cost)) columns-are;
-      follower_cost = c.in_ok-follower_costs.ensures ∙ ap (λ (n : _). map (number_for (follower_numbers aux)) (range_with_len 0 n)) count-is;
+      follower_cost = c.in_ok-follower_costs.ensures
+          ∙ ap (λ (n : _). map (number_for (follower_numbers aux)) (range_with_len 0 n)) count-is;
       follower =
-          c.in_ok-follower_places.ensures ∙ ap (λ (ks : List _). places_where (λ k. is_among k ks) (length c.as_slice-columns.result.now)) c.as_slice-follower.ensures
+          c.in_ok-follower_places.ensures
+          ∙ ap (λ (ks : List _). places_where (λ k. is_among k ks) (length c.as_slice-columns.result.now))
+          c.as_slice-follower.ensures
           ∙ ap (places_where (λ k. is_among k aux.columns)) count-is;
       links =
-          c.in_ok-links.ensures ∙ ap (λ (ks : List _). places_where (is_linking ks c.deref.result.now) (length c.as_slice-columns.result.now)) c.as_slice-follower.ensures
-          ∙ ap (λ (rows : List Row). places_where (is_linking aux.columns rows) (length c.as_slice-columns.result.now)) c.deref.ensures.value
+          c.in_ok-links.ensures
+          ∙ ap (λ (ks : List _). places_where (is_linking ks c.deref.result.now)
+          (length c.as_slice-columns.result.now)) c.as_slice-follower.ensures
+          ∙ ap (λ (rows : List Row). places_where (is_linking aux.columns rows) (length c.as_slice-columns.result.now))
+          c.deref.ensures.value
           ∙ ap (places_where (is_linking aux.columns c.in_ok-rows.rows.items)) count-is;
       sense = let fits : SFits w64 aux.sense = search rules in to_z-of_z w64 aux.sense fits;
     })
 
 pub invariant_of-result : goal.invariant_of-result
 invariant_of-result c =
-    subst IsModel (sym (made c)) (record { sound = program_sound _ _ c.requires.mps c.requires.aux; limits = program_limits _ _ c.requires.mps c.requires.aux })
+    subst IsModel (sym (made c))
+    (record {
+      sound = program_sound _ _ c.requires.mps c.requires.aux;
+      limits =
+          program_limits _ _ c.requires.mps c.requires.aux;
+    })
 
 pub returns : goal.returns
 returns c = made c

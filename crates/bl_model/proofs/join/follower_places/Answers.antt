@@ -17,6 +17,8 @@ marked-requires c =
 
 pub returns : goal.returns
 returns c =
-    let marked = ap (λ (m : List Bool). places_where (λ k. slice_index_or m k false) (length m)) c.deref.ensures.value in
-    let kept = marks_where c.in_ok-is_follower.is_follower.items (λ k. is_among k c.args.follower.now) c.args.column_count c.in_ok-is_follower.ensures in
+    let marked = ap (λ (m : List Bool). places_where (λ k. slice_index_or m k false) (length m))
+    c.deref.ensures.value in
+    let kept = marks_where c.in_ok-is_follower.is_follower.items
+    (λ k. is_among k c.args.follower.now) c.args.column_count c.in_ok-is_follower.ensures in
     subst (λ (places : List ℕ). IfOk c.marked.result (λ v. v.items ≡ places)) (marked ∙ kept) c.marked.ensures

@@ -10,7 +10,9 @@ pub plus_product-sum-requires-clause-product_fits :
 plus_product-sum-requires-clause-product_fits c =
     let coef : FitsSigned w64 (slice_index_or c.args.coef.now c.loop-k.k (pos 0)) = search rules in
     let value : FitsSigned w64 (slice_index_or c.args.z.now c.loop-k.k (pos 0)) = search rules in
-    rw (to_z-of_z, to_z-of_z) (product_fits w64 (within_entry c.requires.coef c.loop-k.k) (within_entry c.requires.z c.loop-k.k) (omega arith))
+    rw (to_z-of_z, to_z-of_z)
+    (product_fits w64 (within_entry c.requires.coef c.loop-k.k) (within_entry c.requires.z c.loop-k.k)
+    (omega arith))
 
 pub plus_product-sum-requires-clause-sum_fits : goal.plus_product-sum-requires-clause-sum_fits
 plus_product-sum-requires-clause-sum_fits c =

@@ -9,5 +9,9 @@ plus_widening_product-sum-requires c =
     let coef : FitsSigned w64 (slice_index_or c.args.coefs.now c.loop-k.k (pos 0)) = search rules in
     let value : FitsSigned w64 (slice_index_or c.args.values.now c.loop-k.k (pos 0)) = search rules in
     let more = rw add-one at (c.requires.fits.each (c.loop-k.k + 1) (omega arith)) in
-    rw (to_z-of_z w64 (slice_index_or c.args.coefs.now c.loop-k.k (pos 0)) coef, to_z-of_z w64 (slice_index_or c.args.values.now c.loop-k.k (pos 0)) value, c.loop-k.invariant)
+    rw (
+      to_z-of_z w64 (slice_index_or c.args.coefs.now c.loop-k.k (pos 0)) coef,
+      to_z-of_z w64 (slice_index_or c.args.values.now c.loop-k.k (pos 0)) value,
+      c.loop-k.invariant,
+    )
     more

@@ -22,6 +22,8 @@ in_sense-requires-clause-cost c =
     let value : IsWithin (MAX_COLUMNS * (MAX_NUMBER * MAX_NUMBER)) (dot p.cost z) =
     within_more (within_dot costs (InBox-within p z model c.requires)) (omega (arith, few)) in
     let is : c.dot.result ≡ dot p.cost z =
-    c.dot.ensures ∙ ap (λ (cs : List ℤ). dot cs z) (c.deref.ensures.value ∙ ap (λ (q : Program). q.cost) c.self.view_is) in
+    c.dot.ensures ∙ ap (λ (cs : List ℤ). dot cs z)
+    (c.deref.ensures.value ∙ ap (λ (q : Program). q.cost) c.self.view_is) in
     let fits : SFits w64 c.dot.result = search rules in
-    subst (λ x. IsWithin (MAX_COLUMNS * (MAX_NUMBER * MAX_NUMBER)) x) (sym is ∙ sym (to_z-of_z w64 c.dot.result fits)) value
+    subst (λ x. IsWithin (MAX_COLUMNS * (MAX_NUMBER * MAX_NUMBER)) x)
+    (sym is ∙ sym (to_z-of_z w64 c.dot.result fits)) value
