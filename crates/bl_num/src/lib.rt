@@ -6,6 +6,7 @@
 #![tactic(auto)]
 
 mod fault;
+mod magnitude;
 mod parts;
 mod read;
 mod write;
