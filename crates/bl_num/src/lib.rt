@@ -14,3 +14,6 @@ mod write;
 pub use fault::NumFault;
 pub use read::read_whole;
 pub use write::put_whole;
+
+#[cfg(test)]
+mod tests;
