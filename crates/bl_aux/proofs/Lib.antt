@@ -1,1 +1,4 @@
+pub mod EntryLaws
+pub mod FaultLaws
+pub mod LineCounts
 pub mod PlaceLaws

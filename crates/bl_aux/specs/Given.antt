@@ -61,6 +61,9 @@ pub record Sizes : Type 0 where
   pub columns : ℕ
   pub rows : ℕ
 
+abbrev pub sizes_of : ℕ → ℕ → Sizes
+sizes_of columns rows = record { columns = columns; rows = rows }
+
 abbrev pub is_empty : List ℤ → Bool
 is_empty [] = true
 is_empty (number ∷ numbers) = false

@@ -3,6 +3,8 @@ use Rattle.std.specs.Prelude.{◌≡◌, ◌≢◌, ◌⊎◌, ℕ, ◌+◌, ◌
 use Rattle.bl_limits.specs.declared.TheConstants.{MAX_TEXT_BYTES}
 use Rattle.bl_text.specs.Lines.{lines_of}
 use Rattle.bl_raw.specs.declared.raw.RawAux.{RawAux}
+use Rattle.bl_aux.specs.declared.fault.AuxError.{AuxError}
+use Rattle.bl_aux.specs.declared.fault.AuxError.TheVariants.{Fault, Memory}
 use Rattle.bl_aux.specs.declared.fault.AuxFault.{AuxFault}
 use Rattle.bl_aux.specs.declared.fault.AuxRule.{AuxRule}
 use Rattle.bl_aux.specs.declared.fault.AuxRule.TheVariants.{CountDiffers, TooLong}
@@ -48,3 +50,8 @@ pub data IsFirstFault (sizes : Sizes) (text : List ℕ) (fault : AuxFault) : Typ
   too_long : MAX_TEXT_BYTES < length text → fault ≡ record { rule = TooLong; line = 0 } → IsFirstFault sizes text fault
   at_line : length text ≤ MAX_TEXT_BYTES → (place : ℕ) (rule : AuxRule) → BreaksFirst sizes (lines_of text) place rule → fault ≡ record { rule = rule; line = place + 1 } → IsFirstFault sizes text fault
   of_whole : length text ≤ MAX_TEXT_BYTES → KeepsRules sizes (lines_of text) → (CountsAgree (given_by (entries_of (lines_of text))) → ⊥) → fault ≡ record { rule = CountDiffers; line = 0 } → IsFirstFault sizes text fault
+
+-- An error names the first fault, or is want of memory, of which nothing is told.
+abbrev pub IsRefused : Sizes → List ℕ → AuxError → Type 0
+IsRefused sizes text (Fault fault) = IsFirstFault sizes text fault
+IsRefused sizes text Memory = Unit {0}

@@ -1,9 +1,9 @@
 //! What the lines so far give.
-ghost use Rattle.std.specs.Prelude.{◌≡◌, ◌++◌, [], ◌∷◌, false, map, pos, negsuc, IfOk, Some, ◌||◌};
+ghost use Rattle.std.specs.Prelude.{◌≡◌, ◌↔◌, [], ◌∷◌, false, pos, Some, IfOk, IsTrue, MatchOption};
 ghost use Rattle.std.specs.Option.{option_map, option_to_list};
-ghost use Rattle.std.specs.Ordering.{int_eq};
 ghost use Rattle.bl_aux.specs.Lines.{is_large};
 ghost use Rattle.bl_aux.specs.Given.{entry_rule, count_rule, sense_rule, is_out_of_order, given_by};
+ghost use Rattle.bl_aux.specs.Texts.{CountsAgree, IsGiven, sense_of};
 ghost use Rattle.bl_aux.specs.Drafts.{Steps, with_entry};
 
 use crate::fault::AuxRule;
@@ -11,18 +11,19 @@ use crate::keys::Key;
 use crate::line::Entry;
 use crate::places::Places;
 use crate::stop::Stop;
-use std::alloc::Global;
+use bl_raw::{Listed, RawAux};
+use std::alloc::{AllocError, Global};
 use std::marker::Model;
 
 /// What the lines so far give, for a model with so many columns and rows.
 #[derive(Drop)]
 pub(crate) struct Draft {
-    pub(crate) column_count: Option<u32>,
-    pub(crate) row_count: Option<u32>,
-    pub(crate) columns: Places,
-    pub(crate) rows: Places,
-    pub(crate) costs: Vec<i64>,
-    pub(crate) sense: Option<i64>,
+    column_count: Option<u32>,
+    row_count: Option<u32>,
+    columns: Places,
+    rows: Places,
+    costs: Vec<i64>,
+    sense: Option<i64>,
 }
 
 impl Model for Draft {
@@ -71,6 +72,33 @@ impl Draft {
         }
     }
 
+    /// Whether the counts that are announced are those of the lines that followed.
+    fn counts_agree(&self) -> bool
+        ensures { IsTrue result ↔ CountsAgree self.now.given }
+    {
+        announces(self.column_count, self.columns.len())
+            && announces(self.row_count, self.rows.len())
+            && self.costs.len() == self.columns.len()
+    }
+
+    /// What is given, as a follower, where the counts agree.
+    pub(crate) fn finish(self, alloc: Global) -> Result<Option<RawAux>, AllocError>
+        ensures { IfOk result (λ found. MatchOption found (CountsAgree self.given → ⊥)
+            (λ aux. CountsAgree self.given × IsGiven self.given aux)) }
+    {
+        if !self.counts_agree() {
+            return Ok(None);
+        }
+        let columns = self.columns.to_vec(alloc)?;
+        let rows = self.rows.to_vec(alloc)?;
+        Ok(Some(RawAux {
+            columns: Listed::new(columns),
+            rows: Listed::new(rows),
+            costs: Listed::new(self.costs),
+            sense: sense_of(self.sense),
+        }))
+    }
+
     /// Enters what a line says, or tells which rule it breaks given the lines before it.
     #[tactic(auto, unfolding(crate::specs::Given::entry_rule))]
     pub(crate) fn enter(&mut self, entry: Entry) -> Result<(), Stop>
@@ -92,6 +120,23 @@ impl Draft {
             Key::Os => enter_sense(&mut self.sense, entry.number),
         }
     }
+}
+
+/// The sense, which is to minimise where none is given.
+fn sense_of(sense: Option<i64>) -> i64
+    ensures { result ≡ sense_of (option_to_list sense) }
+{
+    match sense {
+        Some(sense) => sense,
+        None => 1,
+    }
+}
+
+/// Whether this count is announced.
+fn announces(count: Option<u32>, lines: usize) -> bool
+    ensures { IsTrue result ↔ (option_to_list (option_map pos count) ≡ pos lines ∷ []) }
+{
+    count.is_some_and(|count| count as usize == lines)
 }
 
 /// Enters a count, which is given once and is at most the model's.

@@ -15,4 +15,4 @@ mod stop;
 
 pub use fault::{AuxError, AuxFault, AuxRule};
 pub use keys::Key;
-// pub use read::read_aux;
+pub use read::read_aux;

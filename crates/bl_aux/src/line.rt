@@ -1,8 +1,8 @@
 //! A line by itself.
-ghost use Rattle.std.specs.Prelude.{◌≡◌};
+ghost use Rattle.std.specs.Prelude.{◌≡◌, false, IfOk, IfSome};
 ghost use Rattle.bl_num.specs.Numbers.{read_of};
 ghost use Rattle.bl_text.specs.Fields.{fields_of};
-ghost use Rattle.bl_aux.specs.Lines.{key_of, keyed, line_said, numbered, sized};
+ghost use Rattle.bl_aux.specs.Lines.{is_large, key_of, keyed, line_said, numbered, sized};
 
 use crate::fault::AuxRule;
 use crate::keys::{Key, is_unsupported, key_of};
@@ -20,7 +20,8 @@ pub(crate) struct Entry {
 /// What a line says by itself, which is nothing where it has no fields, or the rule that it breaks by itself.
 #[tactic(auto, unfolding(crate::specs::Lines::said))]
 pub(crate) fn read_line(line: &[u8]) -> Result<Option<Entry>, AuxRule>
-    ensures { result ≡ line_said (fields_of line.now) }
+    ensures said { result ≡ line_said (fields_of line.now) }
+    ensures small { IfOk result (λ found. IfSome found (λ entry. is_large entry.key entry.number ≡ false)) }
 {
     let Some((word, rest)) = split_field(line) else {
         return Ok(None);
@@ -40,7 +41,8 @@ pub(crate) fn read_line(line: &[u8]) -> Result<Option<Entry>, AuxRule>
 
 /// The entry of a line with these two fields.
 fn keyed_entry(word: &[u8], number: &[u8]) -> Result<Entry, AuxRule>
-    ensures { result ≡ keyed (key_of word.now) number.now }
+    ensures said { result ≡ keyed (key_of word.now) number.now }
+    ensures small { IfOk result (λ entry. is_large entry.key entry.number ≡ false) }
 {
     match key_of(word) {
         Some(key) => numbered_entry(key, number),
@@ -49,7 +51,8 @@ fn keyed_entry(word: &[u8], number: &[u8]) -> Result<Entry, AuxRule>
 }
 
 fn numbered_entry(key: Key, number: &[u8]) -> Result<Entry, AuxRule>
-    ensures { result ≡ numbered key (read_of number.now) }
+    ensures said { result ≡ numbered key (read_of number.now) }
+    ensures small { IfOk result (λ entry. is_large entry.key entry.number ≡ false) }
 {
     match read_whole(number) {
         Ok(number) => small_entry(key, number),
@@ -61,7 +64,8 @@ fn numbered_entry(key: Key, number: &[u8]) -> Result<Entry, AuxRule>
 
 /// The entry, where the number isn't a cost above its limit.
 fn small_entry(key: Key, number: i128) -> Result<Entry, AuxRule>
-    ensures { result ≡ sized key number }
+    ensures said { result ≡ sized key number }
+    ensures small { IfOk result (λ entry. is_large entry.key entry.number ≡ false) }
 {
     if matches!(key, Key::Lo) && number.unsigned_abs() > u128::from(MAX_NUMBER) {
         return Err(AuxRule::TooLarge);

@@ -1,5 +1,5 @@
 //! Indices that are given once each.
-ghost use Rattle.std.specs.Prelude.{◌≡◌, ◌++◌, [], ◌∷◌, map, pos, IfOk};
+ghost use Rattle.std.specs.Prelude.{◌≡◌, ◌++◌, [], ◌∷◌, length, map, pos, IfOk};
 ghost use Rattle.bl_aux.specs.Given.{index_rule};
 ghost use Rattle.bl_aux.specs.Drafts.{Steps, place_below};
 
@@ -43,6 +43,12 @@ impl Places {
         ensures { result ≡ self.now.limit }
     {
         self.limit
+    }
+
+    pub(crate) fn len(&self) -> usize
+        ensures { result ≡ length self.now.given }
+    {
+        self.places.len()
     }
 
     /// Enters a number as a place, where it is one and wasn't entered before.
