@@ -55,12 +55,12 @@ abbrev pub Follows : Sizes → List (List ℕ) → List ℕ → Option AuxRule �
 Follows sizes lines line None = after_line (held_by sizes lines) line ≡ Ok (held_by sizes (lines ++ line ∷ []))
 Follows sizes lines line (Some rule) = after_line (held_by sizes lines) line ≡ Err rule
 
-held-nothing : (sizes : Sizes) (lines : List (List ℕ)) (line : List ℕ) → fields_of line ≡ [] → held_by sizes lines ≡ held_by sizes (lines ++ line ∷ [])
+pub held-nothing : (sizes : Sizes) (lines : List (List ℕ)) (line : List ℕ) → fields_of line ≡ [] → held_by sizes lines ≡ held_by sizes (lines ++ line ∷ [])
 held-nothing sizes lines line e =
     let same : entries_of (lines ++ line ∷ []) ≡ entries_of lines = entries_of-push lines line ∙ rw e (append-nil (entries_of lines)) in
     ap (λ (es : List Entry). record { sizes = sizes; given = given_by es }) (sym same)
 
-held-entry : (sizes : Sizes) (lines : List (List ℕ)) (line : List ℕ) (field : List ℕ) (fields : List (List ℕ)) (entry : Entry) → fields_of line ≡ field ∷ fields → said (field ∷ fields) ≡ Ok entry → with_entry (held_by sizes lines) entry ≡ held_by sizes (lines ++ line ∷ [])
+pub held-entry : (sizes : Sizes) (lines : List (List ℕ)) (line : List ℕ) (field : List ℕ) (fields : List (List ℕ)) (entry : Entry) → fields_of line ≡ field ∷ fields → said (field ∷ fields) ≡ Ok entry → with_entry (held_by sizes lines) entry ≡ held_by sizes (lines ++ line ∷ [])
 held-entry sizes lines line field fields entry f e =
     let more : entries_of (lines ++ line ∷ []) ≡ entries_of lines ++ entry ∷ [] = entries_of-push lines line ∙ rw (f, e) refl in
     let given : given_by (entries_of (lines ++ line ∷ [])) ≡ with_number (given_by (entries_of lines)) entry.key entry.number =

@@ -14,11 +14,11 @@ use Rattle.bl_aux.specs.Texts.{KeepsRules, BreaksFirst, IsFirstFault, at_line, I
 use Rattle.bl_aux.specs.Drafts.{Holding, IsHeld, Reads, after_line, after_lines, on_line}
 use Rattle.bl_aux.proofs.EntryLaws.{held_by, Follows, follows}
 
-abbrev Lines : Type 0
+abbrev pub Lines : Type 0
 Lines = List (List ℕ)
 
 -- the rule of the line at a place
-abbrev rule_at : Sizes → Lines → ℕ → Option AuxRule
+abbrev pub rule_at : Sizes → Lines → ℕ → Option AuxRule
 rule_at sizes lines place = line_rule sizes (take place lines) (get_or lines place [])
 
 rule_at-before : (sizes : Sizes) (done more : Lines) (place : ℕ) → place < length done → rule_at sizes (done ++ more) place ≡ rule_at sizes done place
@@ -26,7 +26,7 @@ rule_at-before sizes done more place lt =
     let le : place ≤ length done = omega arith in
     rw (take-append-le place done more le, get_or_append_left done more [] place lt) refl
 
-rule_at-seam : (sizes : Sizes) (done : Lines) (line : List ℕ) (rest : Lines) → rule_at sizes (done ++ line ∷ rest) (length done) ≡ line_rule sizes done line
+pub rule_at-seam : (sizes : Sizes) (done : Lines) (line : List ℕ) (rest : Lines) → rule_at sizes (done ++ line ∷ rest) (length done) ≡ line_rule sizes done line
 rule_at-seam sizes done line rest = rw (take-append_seam done (line ∷ rest), get_or-append_seam done line rest []) refl
 
 kept-push : (sizes : Sizes) (done : Lines) (line : List ℕ) → KeepsRules sizes done → line_rule sizes done line ≡ None → KeepsRules sizes (done ++ line ∷ [])

@@ -2,5 +2,6 @@
 pub mod Lines
 pub mod Given
 pub mod Texts
+pub mod Laws
 -- Internal: what the reader computes with.
 pub mod Drafts

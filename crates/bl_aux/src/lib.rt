@@ -8,6 +8,7 @@
 mod draft;
 mod fault;
 mod keys;
+pub mod laws;
 mod line;
 mod places;
 mod read;
