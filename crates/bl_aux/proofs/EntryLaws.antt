@@ -64,7 +64,7 @@ pub held-entry : (sizes : Sizes) (lines : List (List ℕ)) (line : List ℕ) (fi
 held-entry sizes lines line field fields entry f e =
     let more : entries_of (lines ++ line ∷ []) ≡ entries_of lines ++ entry ∷ [] = entries_of-push lines line ∙ rw (f, e) refl in
     let given : given_by (entries_of (lines ++ line ∷ [])) ≡ with_number (given_by (entries_of lines)) entry.key entry.number =
-        ap given_by more ∙ given_by-push (entries_of lines) entry ∙ grown-is (given_by (entries_of lines)) entry.key entry.number in
+    ap given_by more ∙ given_by-push (entries_of lines) entry ∙ grown-is (given_by (entries_of lines)) entry.key entry.number in
     ap (λ (g : Given). record { sizes = sizes; given = g }) (sym given)
 
 follows-ruled : (sizes : Sizes) (lines : List (List ℕ)) (line : List ℕ) (entry : Entry) (broken : Option AuxRule) → entered (held_by sizes lines) (line_said (fields_of line)) ≡ ruled (held_by sizes lines) entry broken → with_entry (held_by sizes lines) entry ≡ held_by sizes (lines ++ line ∷ []) → Follows sizes lines line broken

@@ -61,10 +61,10 @@ ends sizes done (line ∷ lines) kept =
     let more = ends sizes (done ++ line ∷ []) lines in
     ends-step sizes done line lines (line_rule sizes done line) kept refl (follows sizes done line)
     (λ kept_more.
-        let count : length (done ++ line ∷ []) + 1 ≡ length done + 1 + 1 = omega (arith, length-append done (line ∷ [])) in
-        let whole : (done ++ line ∷ []) ++ lines ≡ done ++ line ∷ lines = append_assoc done (line ∷ []) lines in
-        subst (λ (k : ℕ). Ends sizes (done ++ line ∷ lines) (after_lines (held_by sizes (done ++ line ∷ [])) k lines)) count
-        (subst (λ (ls : Lines). Ends sizes ls (after_lines (held_by sizes (done ++ line ∷ [])) (length (done ++ line ∷ []) + 1) lines)) whole (more kept_more)))
+    let count : length (done ++ line ∷ []) + 1 ≡ length done + 1 + 1 = omega (arith, length-append done (line ∷ [])) in
+    let whole : (done ++ line ∷ []) ++ lines ≡ done ++ line ∷ lines = append_assoc done (line ∷ []) lines in
+    subst (λ (k : ℕ). Ends sizes (done ++ line ∷ lines) (after_lines (held_by sizes (done ++ line ∷ [])) k lines)) count
+    (subst (λ (ls : Lines). Ends sizes ls (after_lines (held_by sizes (done ++ line ∷ [])) (length (done ++ line ∷ []) + 1) lines)) whole (more kept_more)))
 
 pub ends_of : (sizes : Sizes) (lines : Lines) → Ends sizes lines (after_lines (held_by sizes []) 1 lines)
 ends_of sizes lines = ends sizes [] lines (λ place lt. absurd (omega arith))

@@ -68,12 +68,12 @@ same-fault sizes lines p q rule other f g b d e h =
     elim (cases_lt p q) [
       | inl before ↦ absurd (rules-apart (rule_at sizes lines p) rule b.broken (d.kept p before))
       | inr past ↦ elim (cases_lt q p) [
-          | inl before ↦ absurd (rules-apart (rule_at sizes lines q) other d.broken (b.kept q before))
-          | inr past_too ↦
-              let place : p ≡ q = omega arith in
-              let rules = some-is (rule_at sizes lines q) rule other (subst (λ (k : ℕ). rule_at sizes lines k ≡ Some rule) place b.broken) d.broken in
-              e ∙ fault-at p q rule other place rules ∙ sym h
-        ]
+        | inl before ↦ absurd (rules-apart (rule_at sizes lines q) other d.broken (b.kept q before))
+        | inr past_too ↦
+            let place : p ≡ q = omega arith in
+            let rules = some-is (rule_at sizes lines q) rule other (subst (λ (k : ℕ). rule_at sizes lines k ≡ Some rule) place b.broken) d.broken in
+            e ∙ fault-at p q rule other place rules ∙ sym h
+      ]
     ]
 
 fault-is : (sizes : Sizes) (text : List ℕ) (f g : AuxFault) → IsFirstFault sizes text f → IsFirstFault sizes text g → f ≡ g
@@ -105,12 +105,12 @@ counts-agree given =
     elim (one-number given.column_counts (length given.columns)) [
       | inr differ ↦ inr (λ a. differ a.columns)
       | inl columns ↦ elim (one-number given.row_counts (length given.rows)) [
-          | inr differ ↦ inr (λ a. differ a.rows)
-          | inl rows ↦ elim (cases_eq (length given.costs) (length given.columns)) [
-              | inl costs ↦ inl (record { columns = columns; rows = rows; costs = costs })
-              | inr differ ↦ inr (λ a. differ a.costs)
-            ]
+        | inr differ ↦ inr (λ a. differ a.rows)
+        | inl rows ↦ elim (cases_eq (length given.costs) (length given.columns)) [
+          | inl costs ↦ inl (record { columns = columns; rows = rows; costs = costs })
+          | inr differ ↦ inr (λ a. differ a.costs)
         ]
+      ]
     ]
 
 -- numbers from 0 on as places

@@ -2,6 +2,7 @@
 pub mod Lines
 pub mod Given
 pub mod Texts
+pub mod Canonical
 pub mod Laws
 -- Internal: what the reader computes with.
 pub mod Drafts

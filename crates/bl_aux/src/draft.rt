@@ -34,15 +34,15 @@ impl Model for Draft {
     ghost Value = { Holding };
 
     ghost view = { λ d. record {
-        sizes = record { columns = d.columns.limit; rows = d.rows.limit };
-        given = record {
-            column_counts = option_to_list (option_map pos d.column_count);
-            row_counts = option_to_list (option_map pos d.row_count);
-            columns = d.columns.given;
-            rows = d.rows.given;
-            costs = d.costs.items;
-            senses = option_to_list d.sense;
-        };
+      sizes = record { columns = d.columns.limit; rows = d.rows.limit };
+      given = record {
+        column_counts = option_to_list (option_map pos d.column_count);
+        row_counts = option_to_list (option_map pos d.row_count);
+        columns = d.columns.given;
+        rows = d.rows.given;
+        costs = d.costs.items;
+        senses = option_to_list d.sense;
+      };
     } };
 }
 

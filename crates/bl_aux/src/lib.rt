@@ -13,7 +13,12 @@ mod line;
 mod places;
 mod read;
 mod stop;
+mod write;
 
 pub use fault::{AuxError, AuxFault, AuxRule};
 pub use keys::Key;
 pub use read::read_aux;
+pub use write::write_aux;
+
+#[cfg(test)]
+mod tests;

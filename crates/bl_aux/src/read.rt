@@ -20,6 +20,7 @@ use std::alloc::Global;
 /// lines that are there, whatever counts they announce.
 pub fn read_aux(alloc: Global, bytes: &[u8], columns: u32, rows: u32) -> Result<RawAux, AuxError>
     ensures said { IfOk result (Says (sizes_of columns rows) bytes.now) }
+    ensures fits { IfOk result (FitsModel columns rows) }
     ensures refused { IfErr result (IsRefused (sizes_of columns rows) bytes.now) }
 {
     if bytes.len() > MAX_TEXT_BYTES {
