@@ -88,13 +88,13 @@ fn followers(rt: HostRuntime) -> Result<(), Fail> {
 
 #[test]
 fn long_texts(rt: HostRuntime) -> Result<(), Fail> {
-    let mut text = vec![in rt.alloc(); b'\n'; 16_777_216]?;
+    let lines = vec![in rt.alloc(); b'\n'; 10_000]?;
     let counts = AuxFault {
         rule: AuxRule::CountDiffers,
         line: 0,
     };
-    assert_eq!(rt; fault_in(rt.alloc(), &text), Some(counts));
-    text.push(b'\n')?;
+    assert_eq!(rt; fault_in(rt.alloc(), &lines), Some(counts));
+    let text = vec![in rt.alloc(); b'\n'; 16_777_217]?;
     let length = AuxFault {
         rule: AuxRule::TooLong,
         line: 0,
