@@ -4,6 +4,7 @@ ghost use Rattle.bl_terms.specs.Points.{IsArea};
 ghost use Rattle.bl_terms.specs.Bounds.{IsProblem, Fits};
 
 use crate::sizes::{are_within, rows_fit};
+use bl_limits::{MAX_COLUMNS, MAX_NUMBER, MAX_PROBLEM_ROWS};
 use std::alloc::{AllocError, Global};
 use std::marker::Model;
 
@@ -85,18 +86,18 @@ impl<'a> Problem<'a> {
         Ok(())
     }
 
-    /// Whether the problem is small enough for exact arithmetic in 128 bits: at most 120 columns and 465 rows,
-    /// coefficients of magnitude at most `2^36`, right-hand sides of at most `2^62`, costs and bounds of at most ten
-    /// millions.
+    /// Whether the problem is small enough for exact arithmetic in 128 bits: its columns and rows are at most
+    /// `MAX_COLUMNS` and `MAX_PROBLEM_ROWS`, its coefficients and right-hand sides have magnitudes of at most
+    /// `MAX_PROBLEM_COEFFICIENT` and `MAX_PROBLEM_RHS`, its costs and bounds of at most `MAX_NUMBER`.
     pub fn fits(&self) -> bool
         ensures { IsTrue result ↔ Fits self.now }
     {
-        self.lo.len() <= 120
-            && self.rows.len() <= 465
+        self.lo.len() <= MAX_COLUMNS
+            && self.rows.len() <= MAX_PROBLEM_ROWS
             && rows_fit(&self.rows)
-            && are_within(self.cost, 10_000_000)
-            && are_within(self.lo, 10_000_000)
-            && are_within(self.hi, 10_000_000)
+            && are_within(self.cost, MAX_NUMBER)
+            && are_within(self.lo, MAX_NUMBER)
+            && are_within(self.hi, MAX_NUMBER)
     }
 
     /// The rows, in the order in which they were added.

@@ -4,6 +4,7 @@ ghost use Rattle.bl_whole.specs.Within.{IsWithin, AreWithin};
 ghost use Rattle.bl_terms.specs.Bounds.{linear_at};
 
 use crate::problem::ProblemRow;
+use bl_limits::{MAX_PROBLEM_COEFFICIENT, MAX_PROBLEM_RHS};
 
 /// Whether each number has a magnitude of at most `most`.
 pub(crate) fn are_within(numbers: &[i64], most: u64) -> bool
@@ -20,11 +21,13 @@ pub(crate) fn are_within(numbers: &[i64], most: u64) -> bool
 /// Whether the coefficients and right-hand sides of the rows are small enough.
 pub(crate) fn rows_fit(rows: &[ProblemRow<'_>]) -> bool
     ensures { IsTrue result ↔ ((i : ℕ) → i < length rows.now →
-        AreWithin (2 ^ 36) (linear_at rows.now i).coef × IsWithin (2 ^ 62) (linear_at rows.now i).rhs) }
+        AreWithin MAX_PROBLEM_COEFFICIENT (linear_at rows.now i).coef × IsWithin MAX_PROBLEM_RHS (linear_at rows.now i).rhs) }
 {
     for i in 0..rows.len() {
         let row = &rows[i];
-        if !are_within(row.coef(), 1 << 36) || 1 << 62 < row.rhs().unsigned_abs() {
+        if !are_within(row.coef(), MAX_PROBLEM_COEFFICIENT)
+            || MAX_PROBLEM_RHS < row.rhs().unsigned_abs()
+        {
             return false;
         }
     }

@@ -4,7 +4,7 @@ use Rattle.std.proofs.Math.Nat.{le_of_dvd, dvd-zero, dvd_trans, dvd_antisymm, dv
 use Rattle.std.specs.Int.{IsGcd, ◌∣◌}
 use Rattle.std.proofs.lemmas.Nat.Gcd.{IsGcd-from_zero, IsGcd-from_mod, IsGcd-swap, same_from_IsGcd}
 use Rattle.std.proofs.lemmas.Nat.{mod_below}
-use Rattle.bl_frac.specs.Gcd.{gcd, gcd_within}
+use Rattle.bl_simplex.specs.Gcd.{gcd, gcd_within}
 
 IsGcd-gcd_within : (n a b : ℕ) → b ≤ n → IsGcd a b (gcd_within n a b)
 IsGcd-gcd_within zero a b h = IsGcd-from_zero a b (omega arith)

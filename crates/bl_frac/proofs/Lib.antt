@@ -7,3 +7,4 @@ pub mod Terms
 pub mod WholeLaws
 pub mod Rationals
 pub mod Zeros
+pub mod Multiples

@@ -3,8 +3,8 @@ use Rattle.std.proofs.Common.{◌≡◌, ℕ, zero, suc, ◌*◌, ◌/◌, ◌^�
 use Rattle.std.specs.Prelude.{Some}
 use Rattle.std.proofs.Math.Nat.{mul_comm, div-mul_cancel}
 use Rattle.std.proofs.Math.IntN.{*ℤ_comm}
-use Rattle.bl_frac.specs.Gcd.{gcd}
-use Rattle.bl_frac.specs.Fraction.{Fraction, IsReduced, lowest, negated, reciprocal, with_sign_of, sum_left, sum_right, sum_top, sum_bottom, sum_of, difference_of, product_top, product_bottom, product_of, quotient_of}
+use Rattle.bl_simplex.specs.Gcd.{gcd}
+use Rattle.bl_simplex.specs.Fractions.{Fraction, IsReduced, lowest, negated, reciprocal, with_sign_of, sum_left, sum_right, sum_top, sum_bottom, sum_of, difference_of, product_top, product_bottom, product_of, quotient_of}
 use Rattle.bl_frac.specs.Laws.{IsQuotient, IsSum, IsDifference, IsProduct, IsWideSum, IsWideProduct, Gives, QuotientGives, FailsWhere}
 use Rattle.bl_frac.proofs.GcdLaws.{gcd_dvd_left, gcd_dvd_right, share_positive}
 use Rattle.bl_whole.proofs.Products.{*ℤ_assoc, +ℤ-*ℤ, *ℤ-neg_ℤ, neg_ℤ-*ℤ}

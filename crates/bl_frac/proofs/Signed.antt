@@ -7,7 +7,7 @@ use Rattle.std.proofs.lemmas.Int.{to_z-of_z, to_z_pos, fits_signed_from_abs, uns
 use Rattle.std.specs.Prelude.{Result, Ok, Err}
 use Rattle.bl_frac.specs.declared.fraction.WideFrac.{WideFrac}
 use Rattle.bl_frac.specs.Narrowed.{IsNarrowed}
-use Rattle.bl_frac.specs.Fraction.{narrow}
+use Rattle.bl_simplex.specs.Fractions.{narrow}
 
 pub narrow_fits : (z : ℤ) → unsigned_abs z < 2 ^ 127 → FitsSigned w128 z
 narrow_fits z h = fits_signed_from_abs w128 z h

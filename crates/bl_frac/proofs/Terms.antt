@@ -4,7 +4,7 @@ use Rattle.std.specs.Prelude.{Option, Some, None, Result, Ok, Err, IsErr}
 use Rattle.std.specs.Option.{ok_or}
 use Rattle.std.specs.Int.{w128}
 use Rattle.bl_frac.specs.declared.fraction.WideFrac.{WideFrac}
-use Rattle.bl_frac.specs.Fraction.{Fraction, narrow, lowest, sum_left, sum_right, sum_top, sum_bottom, sum_of, product_top, product_bottom, product_of}
+use Rattle.bl_simplex.specs.Fractions.{Fraction, narrow, lowest, sum_left, sum_right, sum_top, sum_bottom, sum_of, product_top, product_bottom, product_of}
 use Rattle.bl_frac.proofs.Signed.{signed_back, signed_of}
 
 -- a numerator times a share

@@ -1,6 +1,9 @@
--- What the arithmetic means over the rational numbers, as equations of whole numbers of any size.
-use Rattle.std.specs.Prelude.{◌≡◌, ◌≢◌, ◌*◌, ◌^◌, ◌≤◌, ◌↔◌, ◌⊎◌, Option, Some, None, ℤ, pos, ◌+ℤ◌, ◌-ℤ◌, ◌*ℤ◌, unsigned_abs}
-use Rattle.bl_frac.specs.Fraction.{Fraction, IsReduced, sum_left, sum_right, sum_top, sum_bottom, product_top, product_bottom, quotient_of}
+-- Trusted: what the arithmetic means over the rational numbers, as equations of whole numbers of any size, and what a greatest common
+-- divisor and a least common multiple are.
+use Rattle.std.specs.Prelude.{◌≡◌, ◌≢◌, ℕ, ◌*◌, ◌^◌, ◌≤◌, ◌↔◌, ◌⊎◌, Option, Some, None, ℤ, pos, ◌+ℤ◌, ◌-ℤ◌, ◌*ℤ◌, unsigned_abs}
+use Rattle.std.specs.Int.{◌∣◌}
+use Rattle.bl_simplex.specs.Gcd.{gcd, lcm}
+use Rattle.bl_simplex.specs.Fractions.{Fraction, IsReduced, sum_left, sum_right, sum_top, sum_bottom, product_top, product_bottom, quotient_of}
 
 -- c is a + b: over the common denominator both sides have one numerator
 abbrev pub IsSum : Fraction → Fraction → Fraction → Type 0
@@ -46,3 +49,21 @@ FailsWhere operation P = (a b : Fraction) → (operation a b ≡ None) ↔ P a b
 abbrev pub QuotientGives : Type 0
 QuotientGives =
     (a b c : Fraction) → IsReduced a → IsReduced b → b.num ≢ pos 0 → quotient_of a b ≡ Some c → IsQuotient a b c × IsReduced c
+
+-- the greatest common divisor divides both numbers, and every common divisor divides it
+pub record IsDivisor (a b : ℕ) : Type 0 where
+  pub left : gcd a b ∣ a
+  pub right : gcd a b ∣ b
+  pub greatest : (d : ℕ) → d ∣ a → d ∣ b → d ∣ gcd a b
+
+-- both numbers divide the least common multiple, and it divides every common multiple
+pub record IsMultiple (a b : ℕ) : Type 0 where
+  pub left : a ∣ lcm a b
+  pub right : b ∣ lcm a b
+  pub least : (m : ℕ) → a ∣ m → b ∣ m → lcm a b ∣ m
+
+abbrev pub DivisorLaw : Type 0
+DivisorLaw = (a b : ℕ) → IsDivisor a b
+
+abbrev pub MultipleLaw : Type 0
+MultipleLaw = (a b : ℕ) → IsMultiple a b

@@ -1,5 +1,3 @@
 -- What the contracts of fractions cite.
-pub mod Gcd
-pub mod Fraction
 pub mod Narrowed
 pub mod Laws

@@ -1,7 +1,7 @@
 -- What the checked steps of the arithmetic give.
 use Rattle.std.specs.Prelude.{◌≡◌, Option, Some, None, Result, Ok, Err, true, false, ℤ, IsErr}
 use Rattle.bl_frac.specs.declared.fraction.WideFrac.{WideFrac}
-use Rattle.bl_frac.specs.Fraction.{narrow}
+use Rattle.bl_simplex.specs.Fractions.{narrow}
 
 -- the number where it is narrow, else the error
 abbrev pub IsNarrowed : ℤ → Result ℤ WideFrac → Type 0

@@ -1,6 +1,6 @@
 //! Greatest common divisors.
 ghost use Rattle.std.specs.Prelude.{◌≡◌, ◌<◌, ◌≤◌};
-ghost use Rattle.bl_frac.specs.Gcd.{gcd as gcd_of};
+ghost use Rattle.bl_simplex.specs.Gcd.{gcd as gcd_of};
 
 /// The greatest common divisor, by 64-bit divisions as soon as both numbers are that small.
 pub fn gcd(a: u128, b: u128) -> u128

@@ -1,7 +1,7 @@
 //! The type of the fractions, and what it is made of.
 ghost use Rattle.std.specs.Prelude.{◌≡◌, ◌↔◌, IsTrue, pos, ◌≤ℤ◌, unsigned_abs};
 ghost use Rattle.std.specs.Option.{SomeIff};
-ghost use Rattle.bl_frac.specs.Fraction.{IsReduced};
+ghost use Rattle.bl_simplex.specs.Fractions.{IsReduced};
 
 use crate::divisor::gcd;
 use std::marker::Model;
@@ -16,7 +16,7 @@ pub struct Frac {
 }
 
 impl Model for Frac {
-    ghost use Rattle.bl_frac.specs.Fraction.{Fraction, IsReduced};
+    ghost use Rattle.bl_simplex.specs.Fractions.{Fraction, IsReduced};
 
     ghost Value = { Fraction };
 

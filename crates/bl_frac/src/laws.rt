@@ -1,7 +1,7 @@
 //! What the arithmetic means over the rational numbers. Each function does nothing: its contract is a law of the
 //! definitions that the contracts of the arithmetic cite.
-ghost use Rattle.bl_frac.specs.Fraction.{sum_of, difference_of, product_of, quotient_of, negated, reciprocal};
-ghost use Rattle.bl_frac.specs.Laws.{Gives, QuotientGives, FailsWhere, IsSum, IsDifference, IsProduct, IsWideSum, IsWideProduct};
+ghost use Rattle.bl_simplex.specs.Fractions.{sum_of, difference_of, product_of, quotient_of, negated, reciprocal};
+ghost use Rattle.bl_frac.specs.Laws.{Gives, QuotientGives, FailsWhere, IsSum, IsDifference, IsProduct, IsWideSum, IsWideProduct, DivisorLaw, MultipleLaw};
 
 /// The sum is the rational one, and fails exactly where a number on the way is wide.
 pub fn sum_law()
@@ -25,4 +25,10 @@ pub fn product_law()
 pub fn quotient_law()
     ensures gives { QuotientGives }
     ensures fails { FailsWhere quotient_of (λ a b. IsWideProduct a (reciprocal b)) }
+{}
+
+/// What the greatest common divisor and the least common multiple are.
+pub fn divisor_law()
+    ensures divisor { DivisorLaw }
+    ensures multiple { MultipleLaw }
 {}

@@ -15,5 +15,6 @@ mod order;
 mod tests;
 
 pub use arithmetic::{add, div, mul, negation, sub};
+pub use divisor::gcd;
 pub use fraction::{Frac, WideFrac, is_whole, parts, reduced, whole};
 pub use order::{compare, floor};

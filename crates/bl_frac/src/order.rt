@@ -1,7 +1,7 @@
 //! The order, and the whole number below.
 ghost use Rattle.std.specs.Prelude.{◌≡◌, ◌*◌, ◌<◌, pos, ◌+ℤ◌, ◌*ℤ◌, ◌≤ℤ◌, ◌<ℤ◌};
 ghost use Rattle.std.specs.Ordering.{nat_cmp};
-ghost use Rattle.bl_frac.specs.Fraction.{order_of};
+ghost use Rattle.bl_simplex.specs.Fractions.{order_of};
 
 use crate::fraction::Frac;
 use crate::narrow::product;

@@ -1,8 +1,8 @@
 -- The chosen column, by two dictionaries that agree.
 use Rattle.std.proofs.Common.{◌≡◌, ℕ, ◌<◌, ◌⊎◌, inl, inr, pos, ◌<ℤ◌, ◌↔◌, sym, ap, ◌∙◌, subst}
 use Rattle.std.specs.Prelude.{Option, Some, None, IsSome}
-use Rattle.bl_frac.specs.Fraction.{Fraction, quotient_of}
-use Rattle.bl_tableau.specs.Pivots.{ratio_of, IsCandidate, GoesFirst, StaysBehind, IsChosen}
+use Rattle.bl_simplex.specs.Fractions.{Fraction, quotient_of}
+use Rattle.bl_simplex.specs.LegalPivots.{ratio_of, IsCandidate, WinsRatioTest, LosesRatioTest, IsEntering}
 
 -- the two agree at the columns below n
 pub record Match (n : ℕ) (costs costs' entries entries' : ℕ → Fraction) (label label' : ℕ → ℕ) : Type 0 where
@@ -23,16 +23,16 @@ turned n costs costs' entries entries' label label' h = record {
   same_labels = λ j l. sym (h.same_labels j l);
 }
 
-relabelled : (o : Option Fraction) (label label' : ℕ → ℕ) (c j : ℕ) (least : Fraction) → label c ≡ label' c → label j ≡ label' j → StaysBehind label c j least o → StaysBehind label' c j least o
+relabelled : (o : Option Fraction) (label label' : ℕ → ℕ) (c j : ℕ) (least : Fraction) → label c ≡ label' c → label j ≡ label' j → LosesRatioTest label c j least o → LosesRatioTest label' c j least o
 relabelled None label label' c j least ec ej h = h
 relabelled (Some y) label label' c j least ec ej h =
-    subst (λ k. (j ≡ c) ⊎ GoesFirst (label' c) k least y) ej (subst (λ k. (j ≡ c) ⊎ GoesFirst k (label j) least y) ec h)
+    subst (λ k. (j ≡ c) ⊎ WinsRatioTest (label' c) k least y) ej (subst (λ k. (j ≡ c) ⊎ WinsRatioTest k (label j) least y) ec h)
 
-behind_agrees : (label label' : ℕ → ℕ) (c j : ℕ) (least : Fraction) (o o' : Option Fraction) → label c ≡ label' c → label j ≡ label' j → o ≡ o' → StaysBehind label c j least o → StaysBehind label' c j least o'
+behind_agrees : (label label' : ℕ → ℕ) (c j : ℕ) (least : Fraction) (o o' : Option Fraction) → label c ≡ label' c → label j ≡ label' j → o ≡ o' → LosesRatioTest label c j least o → LosesRatioTest label' c j least o'
 behind_agrees label label' c j least o o' ec ej eo h =
-    subst (λ b. StaysBehind label' c j least b) eo (relabelled o label label' c j least ec ej h)
+    subst (λ b. LosesRatioTest label' c j least b) eo (relabelled o label label' c j least ec ej h)
 
-chosen_one_way : (n : ℕ) (costs costs' entries entries' : ℕ → Fraction) (label label' : ℕ → ℕ) (c : ℕ) → Match n costs costs' entries entries' label label' → c < n → IsChosen n costs entries label c → IsChosen n costs' entries' label' c
+chosen_one_way : (n : ℕ) (costs costs' entries entries' : ℕ → Fraction) (label label' : ℕ → ℕ) (c : ℕ) → Match n costs costs' entries entries' label label' → c < n → IsEntering n costs entries label c → IsEntering n costs' entries' label' c
 chosen_one_way n costs costs' entries entries' label label' c h hc chosen =
     let back = turned n costs costs' entries entries' label label' h in
     elim chosen [
@@ -50,7 +50,7 @@ chosen_one_way n costs costs' entries entries' label label' c h hc chosen =
       })
     ]
 
-pub chosen_agrees : (n : ℕ) (costs costs' entries entries' : ℕ → Fraction) (label label' : ℕ → ℕ) (c : ℕ) → Match n costs costs' entries entries' label label' → c < n → IsChosen n costs entries label c ↔ IsChosen n costs' entries' label' c
+pub chosen_agrees : (n : ℕ) (costs costs' entries entries' : ℕ → Fraction) (label label' : ℕ → ℕ) (c : ℕ) → Match n costs costs' entries entries' label label' → c < n → IsEntering n costs entries label c ↔ IsEntering n costs' entries' label' c
 chosen_agrees n costs costs' entries entries' label label' c h hc = (
   chosen_one_way n costs costs' entries entries' label label' c h hc,
   chosen_one_way n costs' costs entries' entries label' label c (turned n costs costs' entries entries' label label' h) hc,

@@ -14,12 +14,12 @@ use Rattle.bl_whole.proofs.SumLemmas.{sum_below-agree}
 use Rattle.bl_whole.proofs.WithinLemmas.{within_more, within_dot, within_entry, within_product, within_negation, dots_fit, fits_from_within, within_difference}
 use Rattle.bl_terms.specs.Bounds.{Problem, Fits, linear_at, no_linear}
 use Rattle.bl_terms.specs.Points.{Linear}
-use Rattle.bl_frac.specs.Fraction.{Fraction, IsReduced}
+use Rattle.bl_simplex.specs.Fractions.{Fraction, IsReduced, whole_fraction}
 use Rattle.bl_frac.proofs.Signed.{signed_back}
 use Rattle.bl_frac.proofs.LowestTerms.{minus_natural}
-use Rattle.bl_tableau.specs.Dictionaries.{whole_fraction, columns, cost_row, start_at, at_start, descends, sign_at, opening_number, opening_entry, opening_right}
-use Rattle.bl_tableau.specs.Cells.{cell, placed, AreReduced}
-use Rattle.bl_tableau.specs.Runs.{width_of}
+use Rattle.bl_simplex.specs.Dictionaries.{columns, cost_row, start_at, at_start, descends, sign_at, opening_number, opening_entry, opening_right, width_of}
+use Rattle.bl_simplex.specs.Rationals.{fraction_at}
+use Rattle.bl_tableau.specs.Cells.{placed, AreReduced}
 use Rattle.bl_tableau.proofs.RowSteps.{row_within, test_other}
 use Rattle.bl_tableau.specs.Opening.{Appends, AreStarts}
 
@@ -31,10 +31,10 @@ some_if (Some x) v h p = refl
 pub appends_none : (old : List Fraction) (f : ℕ → ℤ) → Appends old old 0 f
 appends_none old f = record { size = omega arith; before = λ k h. refl; after = λ j h. absurd (omega arith); numbers = λ h. h }
 
-pushed_before : (cur : List Fraction) (x : Fraction) (k : ℕ) → k < length cur → cell (cur ++ x ∷ []) k ≡ cell cur k
+pushed_before : (cur : List Fraction) (x : Fraction) (k : ℕ) → k < length cur → fraction_at (cur ++ x ∷ []) k ≡ fraction_at cur k
 pushed_before cur x k h = grind (arith, common_steps)
 
-pushed_last : (cur : List Fraction) (x : Fraction) (k : ℕ) → k ≡ length cur → cell (cur ++ x ∷ []) k ≡ x
+pushed_last : (cur : List Fraction) (x : Fraction) (k : ℕ) → k ≡ length cur → fraction_at (cur ++ x ∷ []) k ≡ x
 pushed_last cur x k e = grind (arith, common_steps)
 
 pushed_reduced : (cur : List Fraction) (x : Fraction) → AreReduced cur → IsReduced x → AreReduced (cur ++ x ∷ [])
@@ -61,7 +61,7 @@ appends_one old cur new n f x h e value reduced = subst (λ ys. Appends old ys (
 })
 
 -- one run of numbers after another
-pub appends_more : (a b c : List Fraction) (m n : ℕ) (f g : ℕ → ℤ) → Appends a b m f → Appends b c n g → (k : ℕ) → k < length a + m → cell c k ≡ cell b k
+pub appends_more : (a b c : List Fraction) (m n : ℕ) (f g : ℕ → ℤ) → Appends a b m f → Appends b c n g → (k : ℕ) → k < length a + m → fraction_at c k ≡ fraction_at b k
 appends_more a b c m n f g h k i l = k.before i (omega (arith, h.size))
 
 -- the products with the starts are the value where every column is at its start
@@ -99,7 +99,7 @@ rows_opened_more q old new n h more = record {
       elim (cases_eq i n) [
         | inl e ↦
             let at : i * width_of q + j ≡ length old + j = ap (λ k. k * width_of q + j) e ∙ omega (arith, h.size) in
-            ap (cell new) at ∙ more.after j hj ∙ ap (λ k. whole_fraction (opening_number q k j)) (sym e)
+            ap (fraction_at new) at ∙ more.after j hj ∙ ap (λ k. whole_fraction (opening_number q k j)) (sym e)
         | inr ne ↦
             let below = row_within i n (width_of q) (omega arith) in
             more.before (i * width_of q + j) (omega (arith, below, h.size)) ∙ h.places i j (omega arith) hj

@@ -5,10 +5,10 @@ use Rattle.std.proofs.Math.Nat.{dvd_trans, dvd-mul_right, dvd-mul_left, dvd-mul_
 use Rattle.std.proofs.lemmas.Bool.{cases_eq, cases_lt}
 use Rattle.std.proofs.lemmas.List.{get_or_past}
 use Rattle.bl_terms.specs.Bounds.{Problem}
-use Rattle.bl_frac.specs.Fraction.{Fraction}
-use Rattle.bl_tableau.specs.Dictionaries.{Dictionary, whole_fraction, columns, cost_row, opening}
-use Rattle.bl_tableau.specs.Cells.{cell}
-use Rattle.bl_tableau.specs.Pivots.{pivoted, IsNarrowPivot, replay, AllNarrow}
+use Rattle.bl_simplex.specs.Fractions.{Fraction, whole_fraction}
+use Rattle.bl_simplex.specs.Dictionaries.{Dictionary, columns, cost_row, opening}
+use Rattle.bl_simplex.specs.Rationals.{fraction_at}
+use Rattle.bl_simplex.specs.Pivots.{pivoted, IsNarrowPivot, replay, AllNarrow}
 use Rattle.bl_tableau.specs.Solutions.{SolvesRow, Solves, AreRational, ReplayLaw}
 use Rattle.bl_tableau.proofs.Scaling.{multiple, multiple_positive, dvd_multiple}
 use Rattle.bl_tableau.proofs.PivotLaw.{ArePositive, positive_after}
@@ -150,24 +150,24 @@ pivot_gives_back q d r c x narrow positive values solved i hi =
       | inr ne ↦ old_row_solved q d r c i x _ s ne says (solved i hi)
     ]
 
-past_the_end : (values : List Fraction) (k : ℕ) → length values ≤ k → cell values k ≡ whole_fraction (pos 0)
+past_the_end : (values : List Fraction) (k : ℕ) → length values ≤ k → fraction_at values k ≡ whole_fraction (pos 0)
 past_the_end values k h = get_or_past values k (whole_fraction (pos 0)) h
 
-positive_cell : (values : List Fraction) (k : ℕ) → AreRational values → 0 < (cell values k).den
+positive_cell : (values : List Fraction) (k : ℕ) → AreRational values → 0 < (fraction_at values k).den
 positive_cell values k h =
     elim (cases_lt k (length values)) [
       | inl below ↦ h.each k below
       | inr above ↦ subst (λ f. 0 < f.den) (sym (past_the_end values k above)) (omega arith)
     ]
 
-positive_values : (values : List Fraction) → AreRational values → ValuesPositive (cell values)
+positive_values : (values : List Fraction) → AreRational values → ValuesPositive (fraction_at values)
 positive_values values h = record { each = λ k. positive_cell values k h }
 
 pub replay_keeps : (q : Problem) (d : Dictionary) (pivots : List (ℕ × ℕ)) (values : List Fraction) → ArePositive q d → AreRational values → AllNarrow q d pivots → Solves q d values ↔ Solves q (replay d pivots) values
 replay_keeps q d [] values positive rational narrow = (λ s. s, λ s. s)
 replay_keeps q d (p ∷ ps) values positive rational narrow =
     let e = pivoted d p.0 p.1 in
-    let x = cell values in
+    let x = fraction_at values in
     let all = positive_values values rational in
     let rest = replay_keeps q e ps values (positive_after q d p.0 p.1 narrow.0 positive) rational narrow.1 in (
       λ s. rest.0 (record { each = pivot_keeps q d p.0 p.1 x narrow.0 positive all s.each }),

@@ -5,9 +5,9 @@ use Rattle.std.proofs.lemmas.Int.{ints}
 use Rattle.bl_whole.specs.Sums.{sum_below}
 use Rattle.bl_whole.proofs.SumLemmas.{without, sum_below_isolate}
 use Rattle.bl_terms.specs.Bounds.{Problem}
-use Rattle.bl_frac.specs.Fraction.{Fraction}
-use Rattle.bl_tableau.specs.Dictionaries.{Dictionary, columns, cost_row}
-use Rattle.bl_tableau.specs.Pivots.{pivoted, IsNarrowPivot}
+use Rattle.bl_simplex.specs.Fractions.{Fraction}
+use Rattle.bl_simplex.specs.Dictionaries.{Dictionary, columns, cost_row}
+use Rattle.bl_simplex.specs.Pivots.{pivoted, IsNarrowPivot}
 use Rattle.bl_tableau.specs.Solutions.{SolvesRow}
 use Rattle.bl_tableau.proofs.RowSteps.{test_same, test_other}
 use Rattle.bl_tableau.proofs.Scaling.{over, over_is, cancel}

@@ -6,10 +6,11 @@ use Rattle.std.proofs.Math.Nat.{mul-lt-mul_of_pos_right}
 use Rattle.std.proofs.lemmas.Int.{ints}
 use Rattle.bl_whole.specs.Sums.{sum_below}
 use Rattle.bl_terms.specs.Bounds.{Problem}
-use Rattle.bl_frac.specs.Fraction.{Fraction, negated, product_of, quotient_of, difference_of}
+use Rattle.bl_simplex.specs.Fractions.{Fraction, negated, product_of, quotient_of, difference_of, whole_fraction}
 use Rattle.bl_frac.proofs.Rationals.{product_of-is, quotient_of-is, difference_of-is, product_of-positive}
-use Rattle.bl_tableau.specs.Dictionaries.{Dictionary, whole_fraction, columns, cost_row}
-use Rattle.bl_tableau.specs.Solutions.{rational_difference, rational_product, rational_total, SameRational, SolvesRow}
+use Rattle.bl_simplex.specs.Dictionaries.{Dictionary, columns, cost_row}
+use Rattle.bl_simplex.specs.Rationals.{rational_difference, rational_product, rational_total, SameRational}
+use Rattle.bl_tableau.specs.Solutions.{SolvesRow}
 use Rattle.bl_tableau.proofs.Scaling.{IsOver, over, over_is, over_difference, over_product, over_more, over_total, over_unique, over_same, over_negated, same_from_over, over_from_same}
 use Rattle.bl_tableau.proofs.PivotLaw.{ArePositive}
 

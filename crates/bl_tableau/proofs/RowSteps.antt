@@ -5,13 +5,13 @@ use Rattle.std.proofs.Math.Nat.{mul-le-mul_right}
 use Rattle.std.proofs.lemmas.Bool.Decides.{nat_tests}
 use Rattle.std.proofs.lemmas.Bool.{cases_order, cases_eq}
 use Rattle.std.proofs.lemmas.List.{get_or_read}
-use Rattle.bl_frac.specs.Fraction.{Fraction, IsReduced}
-use Rattle.bl_tableau.specs.Dictionaries.{whole_fraction}
-use Rattle.bl_tableau.specs.Cells.{cell, placed, AreReduced}
-use Rattle.bl_tableau.specs.Pivots.{share_of, remainder_of, shares_of, pivot_place, turn_of, IsFirstWide}
+use Rattle.bl_simplex.specs.Fractions.{Fraction, IsReduced, whole_fraction}
+use Rattle.bl_simplex.specs.Rationals.{fraction_at}
+use Rattle.bl_tableau.specs.Cells.{placed, AreReduced}
+use Rattle.bl_simplex.specs.Pivots.{scaled_entry, eliminated_entry, scaled_row, pivot_place, turn_of, IsFirstWide}
 
 -- what an element that was read is
-pub read_cell : (xs : List Fraction) (k : ℕ) (x : Fraction) → k < length xs → x ≡ slice_index_or xs k x → x ≡ cell xs k
+pub read_cell : (xs : List Fraction) (k : ℕ) (x : Fraction) → k < length xs → x ≡ slice_index_or xs k x → x ≡ fraction_at xs k
 read_cell xs k x h e = get_or_read xs k x h e (whole_fraction (pos 0))
 
 pub read_reduced : (xs : List Fraction) (k : ℕ) (x : Fraction) → AreReduced xs → k < length xs → x ≡ slice_index_or xs k x → IsReduced x
@@ -26,16 +26,16 @@ test_same j = grind (arith, nat_tests)
 pub test_other : (j k : ℕ) → j ≢ k → (j == k) ≡ false
 test_other j k h = grind (arith, nat_tests)
 
-pub pivot_place-own : (place : ℕ → ℕ → Fraction) (r c j : ℕ) → pivot_place place r c r j ≡ share_of (place r j) (place r c) (j == c)
+pub pivot_place-own : (place : ℕ → ℕ → Fraction) (r c j : ℕ) → pivot_place place r c r j ≡ scaled_entry (place r j) (place r c) (j == c)
 unfolding pivot_place
 pivot_place-own place r c j = rw (test_same r) refl
 
-pub pivot_place-other : (place : ℕ → ℕ → Fraction) (r c i j : ℕ) → i ≢ r → pivot_place place r c i j ≡ remainder_of (place i c) (place i j) (shares_of place r c j) (j == c)
+pub pivot_place-other : (place : ℕ → ℕ → Fraction) (r c i j : ℕ) → i ≢ r → pivot_place place r c i j ≡ eliminated_entry (place i c) (place i j) (scaled_row place r c j) (j == c)
 unfolding pivot_place
 pivot_place-other place r c i j h = rw (test_other i r h) refl
 
-pub shares_of-some : (place : ℕ → ℕ → Fraction) (r c j : ℕ) (f : Fraction) → share_of (place r j) (place r c) (j == c) ≡ Some f → shares_of place r c j ≡ f
-shares_of-some place r c j f e = ap (λ o. unwrap_or o (whole_fraction (pos 0))) e
+pub scaled_row-some : (place : ℕ → ℕ → Fraction) (r c j : ℕ) (f : Fraction) → scaled_entry (place r j) (place r c) (j == c) ≡ Some f → scaled_row place r c j ≡ f
+scaled_row-some place r c j f e = ap (λ o. unwrap_or o (whole_fraction (pos 0))) e
 
 turn_of-own : (r : ℕ) → turn_of r r ≡ 0
 turn_of-own r = rw (test_same r) refl
@@ -79,15 +79,15 @@ outside k i w j h l =
 
 -- the numbers outside the row of width w at start stay
 abbrev pub OthersStay : List Fraction → List Fraction → ℕ → ℕ → Type 0
-OthersStay xs ys start w = (k : ℕ) → (k < start) ⊎ (start + w ≤ k) → cell ys k ≡ cell xs k
+OthersStay xs ys start w = (k : ℕ) → (k < start) ⊎ (start + w ≤ k) → fraction_at ys k ≡ fraction_at xs k
 
 -- of the dictionary xs the pivot row and the rows before i are as after the pivot, the others as before
 pub record RowsDone (xs zs : List Fraction) (rows w r c i : ℕ) : Type 0 where
-  pub shares : (j : ℕ) → j < w → share_of (cell xs (r * w + j)) (cell xs (r * w + c)) (j == c) ≡ Some (cell zs (r * w + j))
+  pub shares : (j : ℕ) → j < w → scaled_entry (fraction_at xs (r * w + j)) (fraction_at xs (r * w + c)) (j == c) ≡ Some (fraction_at zs (r * w + j))
   pub done : (k j : ℕ) → k < i → k ≢ r → j < w → pivot_place (placed xs w) r c k j ≡ Some (placed zs w k j)
   pub left : (k j : ℕ) → i ≤ k → k < rows → k ≢ r → j < w → placed zs w k j ≡ placed xs w k j
 
-pub rows_begin : (xs ys : List Fraction) (rows w r c : ℕ) → ((j : ℕ) → j < w → share_of (cell xs (r * w + j)) (cell xs (r * w + c)) (j == c) ≡ Some (cell ys (r * w + j))) → OthersStay xs ys (r * w) w → RowsDone xs ys rows w r c 0
+pub rows_begin : (xs ys : List Fraction) (rows w r c : ℕ) → ((j : ℕ) → j < w → scaled_entry (fraction_at xs (r * w + j)) (fraction_at xs (r * w + c)) (j == c) ≡ Some (fraction_at ys (r * w + j))) → OthersStay xs ys (r * w) w → RowsDone xs ys rows w r c 0
 rows_begin xs ys rows w r c shares stay = record {
   shares = shares;
   done = λ k j h _ _. absurd (omega arith);
@@ -97,18 +97,18 @@ rows_begin xs ys rows w r c shares stay = record {
 -- the remainders of row i, from what the pivot row and row i hold
 abbrev pub Remainders : List Fraction → List Fraction → ℕ → ℕ → ℕ → ℕ → Type 0
 Remainders zs ys start pivot w c =
-    (j : ℕ) → j < w → remainder_of (cell zs (start + c)) (cell zs (start + j)) (cell zs (pivot + j)) (j == c) ≡ Some (cell ys (start + j))
+    (j : ℕ) → j < w → eliminated_entry (fraction_at zs (start + c)) (fraction_at zs (start + j)) (fraction_at zs (pivot + j)) (j == c) ≡ Some (fraction_at ys (start + j))
 
 place_in_row : (xs zs : List Fraction) (rows w r c i j : ℕ) → RowsDone xs zs rows w r c i → i < rows → i ≢ r → c < w → j < w
-    → pivot_place (placed xs w) r c i j ≡ remainder_of (cell zs (i * w + c)) (cell zs (i * w + j)) (cell zs (r * w + j)) (j == c)
+    → pivot_place (placed xs w) r c i j ≡ eliminated_entry (fraction_at zs (i * w + c)) (fraction_at zs (i * w + j)) (fraction_at zs (r * w + j)) (j == c)
 place_in_row xs zs rows w r c i j h hi other hc hj =
-    let factor : cell zs (i * w + c) ≡ cell xs (i * w + c) = h.left i c (omega arith) hi other hc in
-    let number : cell zs (i * w + j) ≡ cell xs (i * w + j) = h.left i j (omega arith) hi other hj in
-    let share : shares_of (placed xs w) r c j ≡ cell zs (r * w + j) = shares_of-some (placed xs w) r c j _ (h.shares j hj) in
+    let factor : fraction_at zs (i * w + c) ≡ fraction_at xs (i * w + c) = h.left i c (omega arith) hi other hc in
+    let number : fraction_at zs (i * w + j) ≡ fraction_at xs (i * w + j) = h.left i j (omega arith) hi other hj in
+    let share : scaled_row (placed xs w) r c j ≡ fraction_at zs (r * w + j) = scaled_row-some (placed xs w) r c j _ (h.shares j hj) in
     pivot_place-other (placed xs w) r c i j other
-    ∙ ap (λ e. remainder_of e (cell xs (i * w + j)) (shares_of (placed xs w) r c j) (j == c)) (sym factor)
-    ∙ ap (λ x. remainder_of (cell zs (i * w + c)) x (shares_of (placed xs w) r c j) (j == c)) (sym number)
-    ∙ ap (λ f. remainder_of (cell zs (i * w + c)) (cell zs (i * w + j)) f (j == c)) share
+    ∙ ap (λ e. eliminated_entry e (fraction_at xs (i * w + j)) (scaled_row (placed xs w) r c j) (j == c)) (sym factor)
+    ∙ ap (λ x. eliminated_entry (fraction_at zs (i * w + c)) x (scaled_row (placed xs w) r c j) (j == c)) (sym number)
+    ∙ ap (λ f. eliminated_entry (fraction_at zs (i * w + c)) (fraction_at zs (i * w + j)) f (j == c)) share
 
 pub rows_step : (xs zs ys : List Fraction) (rows w r c i : ℕ) → RowsDone xs zs rows w r c i → i < rows → r < rows → i ≢ r → c < w → Remainders zs ys (i * w) (r * w) w c → OthersStay zs ys (i * w) w → RowsDone xs ys rows w r c (i + 1)
 rows_step xs zs ys rows w r c i h hi hr other hc rest stay = record {
@@ -116,8 +116,8 @@ rows_step xs zs ys rows w r c i h hi hr other hc rest stay = record {
   done = λ k j below apart l.
       elim (cases_eq k i) [
         | inl e ↦
-            let here : pivot_place (placed xs w) r c i j ≡ Some (cell ys (i * w + j)) = place_in_row xs zs rows w r c i j h hi other hc l ∙ rest j l in
-            subst (λ n. pivot_place (placed xs w) r c n j ≡ Some (cell ys (n * w + j))) (sym e) here
+            let here : pivot_place (placed xs w) r c i j ≡ Some (fraction_at ys (i * w + j)) = place_in_row xs zs rows w r c i j h hi other hc l ∙ rest j l in
+            subst (λ n. pivot_place (placed xs w) r c n j ≡ Some (fraction_at ys (n * w + j))) (sym e) here
         | inr ne ↦ h.done k j (omega arith) apart l ∙ ap Some (sym (stay (k * w + j) (outside k i w j ne l)))
       ];
   left = λ k j from in_rows apart l.
@@ -134,13 +134,13 @@ rows_skip xs zs rows w r c i h e = record {
 pub rows_end : (xs zs : List Fraction) (rows w r c : ℕ) → RowsDone xs zs rows w r c rows → (i j : ℕ) → i < rows → j < w → pivot_place (placed xs w) r c i j ≡ Some (placed zs w i j)
 rows_end xs zs rows w r c h i j hi hj =
     elim (cases_eq i r) [
-      | inl e ↦ subst (λ n. pivot_place (placed xs w) r c n j ≡ Some (cell zs (n * w + j))) (sym e) (pivot_place-own (placed xs w) r c j ∙ h.shares j hj)
+      | inl e ↦ subst (λ n. pivot_place (placed xs w) r c n j ≡ Some (fraction_at zs (n * w + j))) (sym e) (pivot_place-own (placed xs w) r c j ∙ h.shares j hj)
       | inr other ↦ h.done i j hi other hj
     ]
 
 -- ---- the first place that is wide
 
-pub wide_share : (xs : List Fraction) (rows w r c j : ℕ) → r < rows → j < w → share_of (cell xs (r * w + j)) (cell xs (r * w + c)) (j == c) ≡ None → ((k : ℕ) → k < j → IsSome (share_of (cell xs (r * w + k)) (cell xs (r * w + c)) (k == c))) → IsFirstWide rows w (placed xs w) r c r j
+pub wide_share : (xs : List Fraction) (rows w r c j : ℕ) → r < rows → j < w → scaled_entry (fraction_at xs (r * w + j)) (fraction_at xs (r * w + c)) (j == c) ≡ None → ((k : ℕ) → k < j → IsSome (scaled_entry (fraction_at xs (r * w + k)) (fraction_at xs (r * w + c)) (k == c))) → IsFirstWide rows w (placed xs w) r c r j
 wide_share xs rows w r c j hr hj wide before = record {
   row_in = hr;
   column_in = hj;
@@ -155,8 +155,8 @@ wide_share xs rows w r c j hr hj wide before = record {
 }
 
 pub wide_remainder : (xs zs : List Fraction) (rows w r c i j : ℕ) → RowsDone xs zs rows w r c i → i < rows → i ≢ r → c < w → j < w
-    → remainder_of (cell zs (i * w + c)) (cell zs (i * w + j)) (cell zs (r * w + j)) (j == c) ≡ None
-    → ((k : ℕ) → k < j → IsSome (remainder_of (cell zs (i * w + c)) (cell zs (i * w + k)) (cell zs (r * w + k)) (k == c)))
+    → eliminated_entry (fraction_at zs (i * w + c)) (fraction_at zs (i * w + j)) (fraction_at zs (r * w + j)) (j == c) ≡ None
+    → ((k : ℕ) → k < j → IsSome (eliminated_entry (fraction_at zs (i * w + c)) (fraction_at zs (i * w + k)) (fraction_at zs (r * w + k)) (k == c)))
     → IsFirstWide rows w (placed xs w) r c i j
 wide_remainder xs zs rows w r c i j h hi other hc hj wide before = record {
   row_in = hi;

@@ -4,19 +4,19 @@ use Rattle.std.specs.Prelude.{Option, Some, IsSome, unwrap_or, ◌==◌, pos, sl
 use Rattle.std.proofs.lemmas.Bool.{cases_eq}
 use Rattle.std.proofs.Math.Seq.{take-append_seam}
 use Rattle.bl_terms.specs.Bounds.{Problem, Fits}
-use Rattle.bl_frac.specs.Fraction.{Fraction}
-use Rattle.bl_tableau.specs.Dictionaries.{Dictionary, whole_fraction, columns, opening, opening_number}
+use Rattle.bl_simplex.specs.Fractions.{Fraction, IsReduced, whole_fraction}
+use Rattle.bl_simplex.specs.Dictionaries.{Dictionary, columns, opening, opening_number, height_of, width_of}
 use Rattle.bl_tableau.specs.Cells.{placed, AreReduced}
-use Rattle.bl_tableau.specs.Pivots.{share_of, remainder_of, pivot_place, pivoted, IsPivot, IsNarrowPivot, IsFirstWide, replay, AllNarrow}
-use Rattle.bl_tableau.specs.Runs.{height_of, width_of, FailsFirstAt, Shows, KeepsReplay}
-use Rattle.bl_tableau.proofs.RowSteps.{test_same, test_other, some_is_some, read_cell, row_within}
+use Rattle.bl_simplex.specs.Pivots.{scaled_entry, eliminated_entry, pivot_place, pivoted, IsPivot, IsNarrowPivot, IsFirstWide, replay, AllNarrow, FailsFirstAt}
+use Rattle.bl_tableau.specs.Runs.{Shows, KeepsReplay}
+use Rattle.bl_tableau.proofs.RowSteps.{test_same, test_other, some_is_some, read_cell, read_reduced, row_within}
 
 -- two dictionaries that agree at four places agree after a pivot
 pivot_place-agree : (p s : ℕ → ℕ → Fraction) (r c i j : ℕ) → p i c ≡ s i c → p i j ≡ s i j → p r j ≡ s r j → p r c ≡ s r c → pivot_place p r c i j ≡ pivot_place s r c i j
 unfolding pivot_place
 pivot_place-agree p s r c i j eic eij erj erc =
     let at : Fraction → Fraction → Fraction → Fraction → Option Fraction =
-    λ e x y z. cond (i == r) (share_of y z (j == c)) (remainder_of e x (unwrap_or (share_of y z (j == c)) (whole_fraction (pos 0))) (j == c)) in
+    λ e x y z. cond (i == r) (scaled_entry y z (j == c)) (eliminated_entry e x (unwrap_or (scaled_entry y z (j == c)) (whole_fraction (pos 0))) (j == c)) in
     ap (λ e. at e (p i j) (p r j) (p r c)) eic ∙ ap (λ x. at (s i c) x (p r j) (p r c)) eij ∙ ap (λ y. at (s i c) (s i j) y (p r c)) erj ∙ ap (at (s i c) (s i j) (s r j)) erc
 
 -- the two agree at every place of so many rows of so many numbers
@@ -126,7 +126,7 @@ keeps_spent q most ps spent cells ys of_rows of_columns capacity room r c i j ke
   shows = λ e. absurd (true_is_not_false true e refl);
   numbers = λ e. absurd (true_is_not_false true e refl);
   narrow = λ e. absurd (true_is_not_false true e refl);
-  failed = λ _. record { front = ps; last = (r, c); split = refl; narrow = kept.narrow fresh; possible = can; row = i; column = j; wide = first };
+  failed = λ _. (i, j, record { front = ps; last = (r, c); split = refl; narrow = kept.narrow fresh; possible = can; wide = first });
 }
 
 -- ---- reading
@@ -136,6 +136,12 @@ shown q cells of_rows of_columns d w i j x h size ew hi hj e =
     let at : x ≡ slice_index_or cells (i * width_of q + j) x = e ∙ ap (λ n. slice_index_or cells (i * n + j) x) ew in
     let within = row_within i (height_of q) (width_of q) hi in
     read_cell cells (i * width_of q + j) x (omega (arith, within, size)) at ∙ h.places i j hi hj
+
+pub shown_reduced : (q : Problem) (cells : List Fraction) (w i j : ℕ) (x : Fraction) → AreReduced cells → length cells ≡ height_of q * width_of q → w ≡ width_of q → i < height_of q → j < width_of q → x ≡ slice_index_or cells (i * w + j) x → IsReduced x
+shown_reduced q cells w i j x all size ew hi hj e =
+    let at : x ≡ slice_index_or cells (i * width_of q + j) x = e ∙ ap (λ n. slice_index_or cells (i * n + j) x) ew in
+    let within = row_within i (height_of q) (width_of q) hi in
+    read_reduced cells (i * width_of q + j) x all (omega (arith, within, size)) at
 
 -- the opening dictionary is shown before any pivot
 pub keeps_opening : (q : Problem) (most : ℕ) (cells : List Fraction) (of_rows of_columns : List ℕ) (room : ℕ) → Fits q → length cells ≡ height_of q * width_of q → length of_rows ≡ height_of q → length of_columns ≡ columns q → most ≤ room

@@ -10,9 +10,8 @@ use Rattle.bl_whole.specs.Identities.{variable, constant, plus, minus, times}
 use Rattle.bl_whole.proofs.IdentityLemmas.{identity}
 use Rattle.bl_whole.proofs.Products.{*ℤ_assoc, neg_ℤ-*ℤ, *ℤ-neg_ℤ, le_of_mul_le}
 use Rattle.bl_frac.proofs.WholeLaws.{neg-neg}
-use Rattle.bl_frac.specs.Fraction.{Fraction, negated}
-use Rattle.bl_tableau.specs.Dictionaries.{whole_fraction}
-use Rattle.bl_tableau.specs.Solutions.{rational_sum, rational_difference, rational_product, rational_total, SameRational}
+use Rattle.bl_simplex.specs.Fractions.{Fraction, negated, whole_fraction}
+use Rattle.bl_simplex.specs.Rationals.{rational_sum, rational_difference, rational_product, rational_total, SameRational}
 
 -- f is z / m
 pub record IsOver (m : ℕ) (f : Fraction) (z : ℤ) : Type 0 where

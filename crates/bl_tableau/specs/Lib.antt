@@ -1,6 +1,4 @@
 -- What the contracts of the tableau cite.
-pub mod Dictionaries
-pub mod Pivots
 pub mod Cells
 pub mod Runs
 pub mod Opening

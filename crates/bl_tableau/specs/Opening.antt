@@ -3,15 +3,16 @@ use Rattle.std.specs.Prelude.{◌≡◌, ℕ, ◌+◌, ◌<◌, List, length, �
 use Rattle.bl_whole.specs.Sums.{component}
 use Rattle.bl_whole.specs.Within.{AreWithin}
 use Rattle.bl_terms.specs.Bounds.{Problem}
-use Rattle.bl_frac.specs.Fraction.{Fraction}
-use Rattle.bl_tableau.specs.Dictionaries.{whole_fraction, columns, start_at}
-use Rattle.bl_tableau.specs.Cells.{cell, AreReduced}
+use Rattle.bl_simplex.specs.Fractions.{Fraction, whole_fraction}
+use Rattle.bl_simplex.specs.Dictionaries.{columns, start_at}
+use Rattle.bl_simplex.specs.Rationals.{fraction_at}
+use Rattle.bl_tableau.specs.Cells.{AreReduced}
 
 -- n whole numbers f 0, f 1, .. now stand behind the old list, as fractions in lowest terms
 pub record Appends (old new : List Fraction) (n : ℕ) (f : ℕ → ℤ) : Type 0 where
   pub size : length new ≡ length old + n
-  pub before : (k : ℕ) → k < length old → cell new k ≡ cell old k
-  pub after : (j : ℕ) → j < n → cell new (length old + j) ≡ whole_fraction (f j)
+  pub before : (k : ℕ) → k < length old → fraction_at new k ≡ fraction_at old k
+  pub after : (j : ℕ) → j < n → fraction_at new (length old + j) ≡ whole_fraction (f j)
   pub numbers : AreReduced old → AreReduced new
 
 -- the list has the start of each column, of magnitude at most ten millions

@@ -1,10 +1,10 @@
 -- A run of pivots from a problem's opening dictionary, and what a tableau keeps of it.
-use Rattle.std.specs.Prelude.{◌≡◌, ℕ, ◌+◌, ◌*◌, ◌<◌, ◌≤◌, Bool, true, false, List, [], ◌∷◌, ◌++◌, length, slice_index}
+use Rattle.std.specs.Prelude.{◌≡◌, ℕ, ◌*◌, ◌<◌, ◌≤◌, Bool, true, false, List, length, slice_index}
 use Rattle.bl_terms.specs.Bounds.{Problem, Fits}
-use Rattle.bl_frac.specs.Fraction.{Fraction}
-use Rattle.bl_tableau.specs.Dictionaries.{Dictionary, columns, cost_row, opening}
+use Rattle.bl_simplex.specs.Fractions.{Fraction}
+use Rattle.bl_simplex.specs.Dictionaries.{Dictionary, columns, height_of, width_of, opening}
 use Rattle.bl_tableau.specs.Cells.{placed, AreReduced}
-use Rattle.bl_tableau.specs.Pivots.{IsPivot, IsFirstWide, replay, AllNarrow}
+use Rattle.bl_simplex.specs.Pivots.{replay, AllNarrow, EndsWide}
 
 -- the problem, the greatest count of pivots, the pivots so far (each a row and a column), and whether the last one passed 128 bits
 pub record Run : Type 0 where
@@ -16,28 +16,6 @@ pub record Run : Type 0 where
 -- the dictionary that the pivots lead to
 abbrev pub current : Run → Dictionary
 current run = replay (opening run.problem) run.pivots
-
--- how many rows a dictionary has, and how many numbers a row
-abbrev pub height_of : Problem → ℕ
-height_of q = cost_row q + 1
-
-abbrev pub width_of : Problem → ℕ
-width_of q = columns q + 1
-
--- (i, j) is the first place of the dictionary at which the pivot at (r, c) passes 128 bits
-abbrev pub FailsFirstAt : Problem → Dictionary → ℕ → ℕ → ℕ → ℕ → Type 0
-FailsFirstAt q d r c i j = IsFirstWide (height_of q) (width_of q) d.place r c i j
-
--- all pivots but the last are narrow, and the last passes 128 bits
-pub record EndsWide (q : Problem) (pivots : List (ℕ × ℕ)) : Type 0 where
-  pub front : List (ℕ × ℕ)
-  pub last : ℕ × ℕ
-  pub split : pivots ≡ front ++ last ∷ []
-  pub narrow : AllNarrow q (opening q) front
-  pub possible : IsPivot q (replay (opening q) front) last.0 last.1
-  pub row : ℕ
-  pub column : ℕ
-  pub wide : FailsFirstAt q (replay (opening q) front) last.0 last.1 row column
 
 -- lists of numbers and labels show the dictionary
 pub record Shows (q : Problem) (cells : List Fraction) (of_rows of_columns : List ℕ) (d : Dictionary) : Type 0 where
@@ -57,4 +35,4 @@ pub record KeepsReplay (run : Run) (cells : List Fraction) (of_rows of_columns :
   pub shows : run.spent ≡ false → Shows run.problem cells of_rows of_columns (current run)
   pub numbers : run.spent ≡ false → AreReduced cells
   pub narrow : run.spent ≡ false → AllNarrow run.problem (opening run.problem) run.pivots
-  pub failed : run.spent ≡ true → EndsWide run.problem run.pivots
+  pub failed : run.spent ≡ true → (row : ℕ) × (column : ℕ) × EndsWide run.problem run.pivots row column

@@ -1,8 +1,8 @@
 //! Which pivots are legal steps of the dual simplex method.
 ghost use Rattle.std.specs.Prelude.{◌≡◌, ◌≢◌, ◌↔◌, ℕ, ◌<◌, ◌⊎◌, pos, ◌<ℤ◌, length, IsTrue, IsSome, slice_index};
-ghost use Rattle.bl_frac.specs.Fraction.{quotient_of};
-ghost use Rattle.bl_tableau.specs.Cells.{cell};
-ghost use Rattle.bl_tableau.specs.Pivots.{ratio_of, IsCandidate, GoesFirst, StaysBehind, IsChosen};
+ghost use Rattle.bl_simplex.specs.Fractions.{quotient_of};
+ghost use Rattle.bl_simplex.specs.Rationals.{fraction_at};
+ghost use Rattle.bl_simplex.specs.LegalPivots.{ratio_of, IsCandidate, WinsRatioTest, LosesRatioTest, IsEntering};
 
 use bl_frac::{Frac, compare, div, parts};
 use std::cmp::Ordering;
@@ -15,8 +15,8 @@ pub(crate) fn is_negative(x: Frac) -> bool
     num < 0
 }
 
-fn goes_first(label: u32, other_label: u32, ratio: Frac, other: Frac) -> bool
-    ensures { IsTrue result ↔ GoesFirst label other_label ratio other }
+fn wins_ratio_test(label: u32, other_label: u32, ratio: Frac, other: Frac) -> bool
+    ensures { IsTrue result ↔ WinsRatioTest label other_label ratio other }
 {
     match compare(ratio, other) {
         Ordering::Less => true,
@@ -25,7 +25,7 @@ fn goes_first(label: u32, other_label: u32, ratio: Frac, other: Frac) -> bool
     }
 }
 
-fn stays_behind(
+fn loses_ratio_test(
     costs: &[Frac],
     entries: &[Frac],
     labels: &[u32],
@@ -36,24 +36,30 @@ fn stays_behind(
     requires costs { length costs.now ≡ length entries.now }
     requires labels { length labels.now ≡ length entries.now }
     requires column_in { column < length entries.now }
-    requires candidate { IsCandidate (length entries.now) (cell entries.now) j }
-    ensures { IsTrue result ↔ StaysBehind (slice_index labels.now) column j least (ratio_of (cell costs.now) (cell entries.now) j) }
+    requires candidate { IsCandidate (length entries.now) (fraction_at entries.now) j }
+    ensures { IsTrue result ↔ LosesRatioTest (slice_index labels.now) column j least (ratio_of (fraction_at costs.now) (fraction_at entries.now) j) }
 {
     match div(costs[j], entries[j]) {
-        Ok(ratio) => j == column || goes_first(labels[column], labels[j], least, ratio),
+        Ok(ratio) => j == column || wins_ratio_test(labels[column], labels[j], least, ratio),
         Err(_) => false,
     }
 }
 
-fn is_least(costs: &[Frac], entries: &[Frac], labels: &[u32], column: usize, least: Frac) -> bool
+fn is_least_ratio(
+    costs: &[Frac],
+    entries: &[Frac],
+    labels: &[u32],
+    column: usize,
+    least: Frac,
+) -> bool
     requires costs { length costs.now ≡ length entries.now }
     requires labels { length labels.now ≡ length entries.now }
     requires column_in { column < length entries.now }
-    ensures { IsTrue result ↔ ((j : ℕ) → IsCandidate (length entries.now) (cell entries.now) j →
-        StaysBehind (slice_index labels.now) column j least (ratio_of (cell costs.now) (cell entries.now) j)) }
+    ensures { IsTrue result ↔ ((j : ℕ) → IsCandidate (length entries.now) (fraction_at entries.now) j →
+        LosesRatioTest (slice_index labels.now) column j least (ratio_of (fraction_at costs.now) (fraction_at entries.now) j)) }
 {
     for j in 0..entries.len() {
-        if is_negative(entries[j]) && !stays_behind(costs, entries, labels, column, least, j) {
+        if is_negative(entries[j]) && !loses_ratio_test(costs, entries, labels, column, least, j) {
             return false;
         }
     }
@@ -70,8 +76,8 @@ fn has_ratio(cost: Frac, entry: Frac) -> bool
 fn has_ratios_before(costs: &[Frac], entries: &[Frac], column: usize) -> bool
     requires costs { length costs.now ≡ length entries.now }
     requires column_in { column < length entries.now }
-    ensures { IsTrue result ↔ ((j : ℕ) → IsCandidate (length entries.now) (cell entries.now) j → j < column →
-        IsSome (ratio_of (cell costs.now) (cell entries.now) j)) }
+    ensures { IsTrue result ↔ ((j : ℕ) → IsCandidate (length entries.now) (fraction_at entries.now) j → j < column →
+        IsSome (ratio_of (fraction_at costs.now) (fraction_at entries.now) j)) }
 {
     for j in 0..column {
         if is_negative(entries[j]) && !has_ratio(costs[j], entries[j]) {
@@ -82,14 +88,14 @@ fn has_ratios_before(costs: &[Frac], entries: &[Frac], column: usize) -> bool
 }
 
 /// Whether the row of these entries leaves for this column, which is a candidate.
-pub(crate) fn is_chosen(costs: &[Frac], entries: &[Frac], labels: &[u32], column: usize) -> bool
+pub(crate) fn is_entering(costs: &[Frac], entries: &[Frac], labels: &[u32], column: usize) -> bool
     requires costs { length costs.now ≡ length entries.now }
     requires labels { length labels.now ≡ length entries.now }
-    requires candidate { IsCandidate (length entries.now) (cell entries.now) column }
-    ensures { IsTrue result ↔ IsChosen (length entries.now) (cell costs.now) (cell entries.now) (slice_index labels.now) column }
+    requires candidate { IsCandidate (length entries.now) (fraction_at entries.now) column }
+    ensures { IsTrue result ↔ IsEntering (length entries.now) (fraction_at costs.now) (fraction_at entries.now) (slice_index labels.now) column }
 {
     match div(costs[column], entries[column]) {
-        Ok(least) => is_least(costs, entries, labels, column, least),
+        Ok(least) => is_least_ratio(costs, entries, labels, column, least),
         Err(_) => has_ratios_before(costs, entries, column),
     }
 }

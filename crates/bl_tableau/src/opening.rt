@@ -2,14 +2,14 @@
 ghost use Rattle.std.specs.Prelude.{◌≡◌, ℕ, ◌+◌, ◌*◌, ◌^◌, ◌<◌, ◌≤◌, pos, negsuc, ◌*ℤ◌, length, OnOk, IfOk, slice_index, unsigned_abs, if◌then◌else◌};
 ghost use Rattle.bl_whole.specs.Within.{IsWithin};
 ghost use Rattle.bl_terms.specs.Bounds.{Fits};
-ghost use Rattle.bl_tableau.specs.Dictionaries.{whole_fraction, columns, opening_number};
+ghost use Rattle.bl_simplex.specs.Fractions.{whole_fraction};
+ghost use Rattle.bl_simplex.specs.Dictionaries.{columns, opening_number, height_of, width_of};
 ghost use Rattle.bl_tableau.specs.Cells.{placed, AreReduced};
 ghost use Rattle.bl_tableau.specs.Opening.{Appends, AreStarts};
-ghost use Rattle.bl_tableau.specs.Runs.{height_of, width_of};
 
 use bl_bound::Problem;
 use bl_frac::{Frac, reduced, whole};
-use bl_whole::{dot_product, int128, int64};
+use bl_whole::{dot_product, int64, int128};
 use std::alloc::{AllocError, Global};
 
 /// The numbers `from`, `from + 1` and so on, so many of them.

@@ -1,8 +1,8 @@
 //! One number of a pivot.
 ghost use Rattle.std.specs.Prelude.{◌≡◌, ◌≢◌, ◌↔◌, pos, IfOk, IsTrue};
 ghost use Rattle.std.specs.Option.{ok_or};
-ghost use Rattle.bl_frac.specs.Fraction.{IsReduced};
-ghost use Rattle.bl_tableau.specs.Pivots.{share_of, remainder_of};
+ghost use Rattle.bl_simplex.specs.Fractions.{IsReduced};
+ghost use Rattle.bl_simplex.specs.Pivots.{scaled_entry, eliminated_entry};
 
 use bl_frac::{Frac, WideFrac, div, mul, negation, parts, sub, whole};
 
@@ -15,11 +15,11 @@ pub(crate) fn is_zero(x: Frac) -> bool
 }
 
 /// The number `x` of the pivot row, divided by the pivot; one over the pivot at its own column.
-pub(crate) fn share(x: Frac, pivot: Frac, own: bool) -> Result<Frac, WideFrac>
+pub(crate) fn scaled(x: Frac, pivot: Frac, own: bool) -> Result<Frac, WideFrac>
     requires nonzero { pivot.num ≢ pos 0 }
     requires number { IsReduced x }
     requires divisor { IsReduced pivot }
-    ensures value { result ≡ ok_or (share_of x pivot own) (record {}) }
+    ensures value { result ≡ ok_or (scaled_entry x pivot own) (record {}) }
     ensures lowest_terms { IfOk result IsReduced }
 {
     if own {
@@ -31,20 +31,20 @@ pub(crate) fn share(x: Frac, pivot: Frac, own: bool) -> Result<Frac, WideFrac>
     div(x, pivot)
 }
 
-/// The number `x` of another row, less `factor` times the share of the pivot row; minus that product at the
+/// The number `x` of another row, less `factor` times the scaled entry of the pivot row; minus that product at the
 /// pivot's own column.
-pub(crate) fn remainder(factor: Frac, x: Frac, share: Frac, own: bool) -> Result<Frac, WideFrac>
+pub(crate) fn eliminated(factor: Frac, x: Frac, scaled: Frac, own: bool) -> Result<Frac, WideFrac>
     requires factor_reduced { IsReduced factor }
     requires number { IsReduced x }
-    requires share_reduced { IsReduced share }
-    ensures value { result ≡ ok_or (remainder_of factor x share own) (record {}) }
+    requires scaled_reduced { IsReduced scaled }
+    ensures value { result ≡ ok_or (eliminated_entry factor x scaled own) (record {}) }
     ensures lowest_terms { IfOk result IsReduced }
 {
     if own {
-        return Ok(negation(mul(factor, share)?));
+        return Ok(negation(mul(factor, scaled)?));
     }
-    if is_zero(share) {
+    if is_zero(scaled) {
         return Ok(x);
     }
-    sub(x, mul(factor, share)?)
+    sub(x, mul(factor, scaled)?)
 }

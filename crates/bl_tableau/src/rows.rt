@@ -1,9 +1,10 @@
 //! A pivot, on the numbers of a dictionary row by row.
 ghost use Rattle.std.specs.Prelude.{◌≡◌, ◌≢◌, ℕ, ◌+◌, ◌*◌, ◌<◌, ◌≤◌, ◌⊎◌, ◌==◌, pos, length, Some, None, IsSome, OnOk, IfErr, IfOk, IsTrue};
-ghost use Rattle.bl_tableau.specs.Cells.{cell, placed, AreReduced};
-ghost use Rattle.bl_tableau.specs.Pivots.{share_of, remainder_of, pivot_place, IsFirstWide};
+ghost use Rattle.bl_simplex.specs.Rationals.{fraction_at};
+ghost use Rattle.bl_tableau.specs.Cells.{placed, AreReduced};
+ghost use Rattle.bl_simplex.specs.Pivots.{scaled_entry, eliminated_entry, pivot_place, IsFirstWide};
 
-use crate::place::{is_zero, remainder, share};
+use crate::place::{eliminated, is_zero, scaled};
 use bl_frac::Frac;
 
 /// A row and a column.
@@ -18,23 +19,23 @@ pub(crate) struct Place {
 fn divide_row(cells: &mut [Frac], start: usize, width: usize, column: usize) -> Result<(), usize>
     requires within { start + width ≤ length cells.old }
     requires column_in { column < width }
-    requires nonzero { (cell cells.old (start + column)).num ≢ pos 0 }
+    requires nonzero { (fraction_at cells.old (start + column)).num ≢ pos 0 }
     requires numbers { AreReduced cells.old }
     ensures ok { OnOk result ((j : ℕ) → j < width →
-        share_of (cell cells.old (start + j)) (cell cells.old (start + column)) (j == column) ≡ Some (cell cells.new (start + j))) }
-    ensures others { OnOk result ((k : ℕ) → (k < start) ⊎ (start + width ≤ k) → cell cells.new k ≡ cell cells.old k) }
+        scaled_entry (fraction_at cells.old (start + j)) (fraction_at cells.old (start + column)) (j == column) ≡ Some (fraction_at cells.new (start + j))) }
+    ensures others { OnOk result ((k : ℕ) → (k < start) ⊎ (start + width ≤ k) → fraction_at cells.new k ≡ fraction_at cells.old k) }
     ensures lowest_terms { OnOk result (AreReduced cells.new) }
     ensures err { IfErr result (λ j. j < width) }
     ensures wide { IfErr result (λ j.
-        share_of (cell cells.old (start + j)) (cell cells.old (start + column)) (j == column) ≡ None) }
+        scaled_entry (fraction_at cells.old (start + j)) (fraction_at cells.old (start + column)) (j == column) ≡ None) }
     ensures earlier { IfErr result (λ j. (k : ℕ) → k < j →
-        IsSome (share_of (cell cells.old (start + k)) (cell cells.old (start + column)) (k == column))) }
+        IsSome (scaled_entry (fraction_at cells.old (start + k)) (fraction_at cells.old (start + column)) (k == column))) }
 {
     let pivot = cells[start + column];
     for j in 0..width {
         let x = cells[start + j];
-        match share(x, pivot, j == column) {
-            Ok(share) => cells[start + j] = share,
+        match scaled(x, pivot, j == column) {
+            Ok(scaled) => cells[start + j] = scaled,
             Err(_) => return Err(j),
         }
     }
@@ -56,16 +57,16 @@ fn reduce_row(
     requires column_in { column < width }
     requires numbers { AreReduced cells.old }
     ensures ok { OnOk result ((j : ℕ) → j < width →
-        remainder_of (cell cells.old (start + column)) (cell cells.old (start + j)) (cell cells.old (pivot + j)) (j == column)
-        ≡ Some (cell cells.new (start + j))) }
-    ensures others { OnOk result ((k : ℕ) → (k < start) ⊎ (start + width ≤ k) → cell cells.new k ≡ cell cells.old k) }
+        eliminated_entry (fraction_at cells.old (start + column)) (fraction_at cells.old (start + j)) (fraction_at cells.old (pivot + j)) (j == column)
+        ≡ Some (fraction_at cells.new (start + j))) }
+    ensures others { OnOk result ((k : ℕ) → (k < start) ⊎ (start + width ≤ k) → fraction_at cells.new k ≡ fraction_at cells.old k) }
     ensures lowest_terms { OnOk result (AreReduced cells.new) }
     ensures err { IfErr result (λ j. j < width) }
     ensures wide { IfErr result (λ j.
-        remainder_of (cell cells.old (start + column)) (cell cells.old (start + j)) (cell cells.old (pivot + j)) (j == column)
+        eliminated_entry (fraction_at cells.old (start + column)) (fraction_at cells.old (start + j)) (fraction_at cells.old (pivot + j)) (j == column)
         ≡ None) }
     ensures earlier { IfErr result (λ j. (k : ℕ) → k < j →
-        IsSome (remainder_of (cell cells.old (start + column)) (cell cells.old (start + k)) (cell cells.old (pivot + k)) (k == column))) }
+        IsSome (eliminated_entry (fraction_at cells.old (start + column)) (fraction_at cells.old (start + k)) (fraction_at cells.old (pivot + k)) (k == column))) }
 {
     let factor = cells[start + column];
     if is_zero(factor) {
@@ -73,8 +74,8 @@ fn reduce_row(
     }
     for j in 0..width {
         let x = cells[start + j];
-        let share = cells[pivot + j];
-        match remainder(factor, x, share, j == column) {
+        let scaled = cells[pivot + j];
+        match eliminated(factor, x, scaled, j == column) {
             Ok(rest) => cells[start + j] = rest,
             Err(_) => return Err(j),
         }

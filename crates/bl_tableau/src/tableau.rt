@@ -1,12 +1,14 @@
 //! The tableau: a dictionary in memory, with the pivots that led to it.
-ghost use Rattle.std.specs.Prelude.{◌≡◌, ◌≢◌, ◌↔◌, ℕ, IsTrue, ◌<◌, ◌≤◌, pos, false, [], ◌∷◌, ◌++◌, length, OnOk, IfOk, IfErr, is_err, slice_index, slice_set};
+ghost use Rattle.std.specs.Prelude.{◌≡◌, ◌≢◌, ◌↔◌, ℕ, IsTrue, ◌<◌, ◌≤◌, pos, false, [], ◌∷◌, ◌++◌, length, OnOk, IfOk, IfErr, is_err, slice_index, slice_set, true};
 ghost use Rattle.bl_terms.specs.Bounds.{Fits};
-ghost use Rattle.bl_tableau.specs.Cells.{cell};
-ghost use Rattle.bl_tableau.specs.Dictionaries.{columns, cost_row};
-ghost use Rattle.bl_tableau.specs.Pivots.{IsNarrowPivot, IsLegal};
-ghost use Rattle.bl_tableau.specs.Runs.{current, FailsFirstAt};
+ghost use Rattle.bl_simplex.specs.Rationals.{fraction_at};
+ghost use Rattle.bl_simplex.specs.Fractions.{IsReduced};
+ghost use Rattle.bl_simplex.specs.Dictionaries.{columns, cost_row, opening};
+ghost use Rattle.bl_simplex.specs.Pivots.{AllNarrow, EndsWide, FailsFirstAt, IsNarrowPivot};
+ghost use Rattle.bl_simplex.specs.LegalPivots.{IsLegal};
+ghost use Rattle.bl_tableau.specs.Runs.{current};
 
-use crate::legal::{is_chosen, is_negative};
+use crate::legal::{is_entering, is_negative};
 use crate::opening::{numbers, opening_cells};
 use crate::rows::{Place, pivot_rows};
 use bl_bound::Problem;
@@ -80,7 +82,8 @@ impl<'p, 'a> Tableau<'p, 'a> {
     pub fn right(&self, row: u32) -> Frac
         requires not_spent { self.now.spent ≡ false }
         requires row_in { row ≤ cost_row self.now.problem }
-        ensures { result ≡ (current self.now).place row (columns self.now.problem) }
+        ensures value { result ≡ (current self.now).place row (columns self.now.problem) }
+        ensures lowest_terms { IsReduced result }
     {
         let width = self.column_labels.len() + 1;
         self.cells[row as usize * width + self.column_labels.len()]
@@ -91,7 +94,8 @@ impl<'p, 'a> Tableau<'p, 'a> {
         requires not_spent { self.now.spent ≡ false }
         requires row_in { row ≤ cost_row self.now.problem }
         requires column_in { column < columns self.now.problem }
-        ensures { result ≡ (current self.now).place row column }
+        ensures value { result ≡ (current self.now).place row column }
+        ensures lowest_terms { IsReduced result }
     {
         let width = self.column_labels.len() + 1;
         self.cells[row as usize * width + column as usize]
@@ -102,7 +106,7 @@ impl<'p, 'a> Tableau<'p, 'a> {
         requires not_spent { self.now.spent ≡ false }
         requires row_in { row ≤ cost_row self.now.problem }
         ensures size { length result.now ≡ columns self.now.problem }
-        ensures places { (j : ℕ) → j < columns self.now.problem → cell result.now j ≡ (current self.now).place row j }
+        ensures places { (j : ℕ) → j < columns self.now.problem → fraction_at result.now j ≡ (current self.now).place row j }
     {
         let columns = self.column_labels.len();
         let start = row as usize * (columns + 1);
@@ -123,7 +127,7 @@ impl<'p, 'a> Tableau<'p, 'a> {
         {
             return false;
         }
-        is_chosen(
+        is_entering(
             self.entries(cost_row),
             self.entries(row),
             &self.column_labels,
@@ -151,7 +155,9 @@ impl<'p, 'a> Tableau<'p, 'a> {
 
     /// The pivots so far, each a row and a column. Of a spent tableau the last one is the one that failed.
     pub fn pivots(&self) -> &[(u32, u32)]
-        ensures { result.now ≡ self.now.pivots }
+        ensures value { result.now ≡ self.now.pivots }
+        ensures narrow { self.now.spent ≡ false → AllNarrow self.now.problem (opening self.now.problem) self.now.pivots }
+        ensures failed { self.now.spent ≡ true → (row : ℕ) × (column : ℕ) × EndsWide self.now.problem self.now.pivots row column }
     {
         self.pivots.as_slice()
     }

@@ -1,7 +1,7 @@
 //! Worked dictionaries, found by hand.
 ghost use Rattle.std.specs.Prelude.{◌≡◌, ◌+◌, ◌<◌, ◌≤◌, false, length, OnOk, IfOk};
 ghost use Rattle.bl_terms.specs.Points.{IsArea};
-ghost use Rattle.bl_tableau.specs.Dictionaries.{columns, cost_row};
+ghost use Rattle.bl_simplex.specs.Dictionaries.{columns, cost_row};
 
 use super::*;
 use bl_bound::Problem;

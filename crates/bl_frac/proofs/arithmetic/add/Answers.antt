@@ -2,8 +2,8 @@ use Rattle.std.proofs.Common.{◌≡◌, pos, ◌+ℤ◌, unsigned_abs, false, t
 use Rattle.std.specs.Option.{ok_or}
 use Rattle.std.specs.Prelude.{Ok}
 use Rattle.std.specs.Int.{w128}
-use Rattle.bl_frac.specs.Gcd.{gcd}
-use Rattle.bl_frac.specs.Fraction.{Fraction, narrow, sum_left, sum_top, sum_bottom}
+use Rattle.bl_simplex.specs.Gcd.{gcd}
+use Rattle.bl_simplex.specs.Fractions.{Fraction, narrow, sum_left, sum_top, sum_bottom}
 use Rattle.bl_frac.proofs.Signed.{landed, narrow_from_test}
 use Rattle.bl_frac.proofs.LowestTerms.{parts_of_sum, IsReduced-lowest, sum_bottom_positive, stored}
 use Rattle.bl_frac.proofs.Terms.{term, denominator, wide_answer, sum_of-wide_left, sum_of-wide_right, sum_of-wide_top, sum_of-wide_bottom, sum_of-narrow}

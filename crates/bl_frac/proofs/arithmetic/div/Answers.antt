@@ -1,6 +1,6 @@
 use Rattle.std.proofs.Common.{◌∙◌, ap}
 use Rattle.std.specs.Option.{ok_or}
-use Rattle.bl_frac.specs.Fraction.{quotient_of, product_of}
+use Rattle.bl_simplex.specs.Fractions.{quotient_of, product_of}
 use Rattle.bl_frac.proofs.arithmetic.div.Goals as goal
 
 pub returns : goal.returns

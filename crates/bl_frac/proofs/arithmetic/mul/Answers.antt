@@ -2,8 +2,8 @@ use Rattle.std.proofs.Common.{◌≡◌, pos, ◌*ℤ◌, unsigned_abs, int_div,
 use Rattle.std.specs.Option.{ok_or}
 use Rattle.std.specs.Prelude.{Ok}
 use Rattle.std.specs.Int.{w128}
-use Rattle.bl_frac.specs.Gcd.{gcd}
-use Rattle.bl_frac.specs.Fraction.{Fraction, IsReduced, narrow, product_top, product_bottom}
+use Rattle.bl_simplex.specs.Gcd.{gcd}
+use Rattle.bl_simplex.specs.Fractions.{Fraction, IsReduced, narrow, product_top, product_bottom}
 use Rattle.bl_frac.proofs.Signed.{landed, narrow_from_test}
 use Rattle.bl_frac.proofs.LowestTerms.{share_value, shares_product, IsReduced-product}
 use Rattle.bl_frac.proofs.Terms.{wide_answer, product_of-wide_top, product_of-wide_bottom, product_of-narrow}

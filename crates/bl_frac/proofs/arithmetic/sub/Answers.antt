@@ -1,6 +1,6 @@
 use Rattle.std.proofs.Common.{◌∙◌, ap}
 use Rattle.std.specs.Option.{ok_or}
-use Rattle.bl_frac.specs.Fraction.{difference_of, sum_of}
+use Rattle.bl_simplex.specs.Fractions.{difference_of, sum_of}
 use Rattle.bl_frac.proofs.arithmetic.sub.Goals as goal
 
 pub returns : goal.returns

@@ -1,5 +1,5 @@
 use Rattle.std.proofs.Common.{◌≡◌, sym, ◌∙◌, arith}
-use Rattle.bl_frac.specs.Gcd.{gcd as gcd_of}
+use Rattle.bl_simplex.specs.Gcd.{gcd as gcd_of}
 use Rattle.bl_frac.proofs.GcdLaws.{gcd-mod, gcd-zero, gcd_one, gcd_positive, gcd-le}
 use Rattle.bl_frac.proofs.divisor.gcd.Goals as goal
 

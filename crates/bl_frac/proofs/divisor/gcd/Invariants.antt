@@ -1,5 +1,5 @@
 use Rattle.std.proofs.Common.{◌≡◌}
-use Rattle.bl_frac.specs.Gcd.{gcd}
+use Rattle.bl_simplex.specs.Gcd.{gcd}
 use Rattle.bl_frac.proofs.divisor.gcd.Given as goal
 
 abbrev pub invariant-loop-less : goal.invariant-loop-less

@@ -1,7 +1,7 @@
 use Rattle.std.proofs.Common.{pos, ◌*ℤ◌, to_z, of_z, ◌∙◌, ap}
 use Rattle.std.specs.Int.{w128}
 use Rattle.std.specs.Ordering.{int_cmp}
-use Rattle.bl_frac.specs.Fraction.{order_of}
+use Rattle.bl_simplex.specs.Fractions.{order_of}
 use Rattle.bl_frac.proofs.Signed.{signed_back, signed_of, narrowed_value}
 use Rattle.bl_frac.proofs.order.compare.Goals as goal
 

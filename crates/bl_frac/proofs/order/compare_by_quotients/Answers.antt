@@ -1,5 +1,5 @@
 use Rattle.std.proofs.Common.{◌∙◌, ap, unsigned_abs}
-use Rattle.bl_frac.specs.Fraction.{order_of}
+use Rattle.bl_simplex.specs.Fractions.{order_of}
 use Rattle.bl_frac.proofs.Signed.{signed_back}
 use Rattle.bl_frac.proofs.Ratios.{order_of_naturals, order_of_negatives, order_below, order_above}
 use Rattle.bl_frac.proofs.order.compare_by_quotients.Goals as goal

@@ -1,5 +1,5 @@
 use Rattle.std.proofs.Common.{◌≡◌, ◌+◌, length, ap, subst, arith}
-use Rattle.bl_tableau.specs.Dictionaries.{columns, cost_row}
+use Rattle.bl_simplex.specs.Dictionaries.{columns, cost_row}
 use Rattle.bl_tableau.proofs.OpeningSteps.{RowsOpened, rows_opened_more}
 use Rattle.bl_tableau.proofs.opening.opening_cells.Goals as goal
 

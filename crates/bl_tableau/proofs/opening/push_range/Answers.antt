@@ -1,5 +1,5 @@
 use Rattle.std.proofs.Common.{rules, ◌≡◌, ◌+◌, ◌<◌, length, ap, ◌∙◌, subst, arith}
-use Rattle.bl_tableau.specs.Dictionaries.{columns, opening_number}
+use Rattle.bl_simplex.specs.Dictionaries.{columns, opening_number}
 use Rattle.bl_tableau.specs.Opening.{Appends}
 use Rattle.bl_tableau.proofs.OpeningSteps.{appends_one, range_number, range_right, flag_number}
 use Rattle.bl_tableau.proofs.opening.push_range.Goals as goal

@@ -1,5 +1,5 @@
 use Rattle.std.proofs.Common.{◌+◌, length}
-use Rattle.bl_tableau.specs.Dictionaries.{opening_number}
+use Rattle.bl_simplex.specs.Dictionaries.{opening_number}
 use Rattle.bl_tableau.specs.Opening.{Appends}
 use Rattle.bl_tableau.proofs.opening.push_range.Given as goal
 

@@ -1,4 +1,4 @@
-use Rattle.bl_tableau.specs.Dictionaries.{opening_number}
+use Rattle.bl_simplex.specs.Dictionaries.{opening_number}
 use Rattle.bl_tableau.specs.Opening.{Appends}
 use Rattle.bl_tableau.proofs.opening.push_row.Given as goal
 

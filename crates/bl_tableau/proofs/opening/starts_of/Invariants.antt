@@ -1,7 +1,7 @@
 use Rattle.std.proofs.Common.{◌≡◌, ℕ, ◌<◌, length}
 use Rattle.bl_whole.specs.Sums.{component}
 use Rattle.bl_whole.specs.Within.{AreWithin}
-use Rattle.bl_tableau.specs.Dictionaries.{start_at}
+use Rattle.bl_simplex.specs.Dictionaries.{start_at}
 use Rattle.bl_tableau.proofs.opening.starts_of.Given as goal
 
 abbrev pub invariant-loop-j : goal.invariant-loop-j

@@ -1,10 +1,10 @@
 use Rattle.std.proofs.Common.{◌≡◌, ◌≢◌, ℕ, ◌+◌, ◌<◌, ◌≤◌, List, length, ◌∙◌, false, true, pos, refl, sym, ap, subst, arith}
 use Rattle.std.specs.Vec.{vec_capacity}
-use Rattle.bl_frac.specs.Fraction.{Fraction}
+use Rattle.bl_simplex.specs.Fractions.{Fraction}
 use Rattle.bl_tableau.specs.Cells.{placed}
-use Rattle.bl_tableau.specs.Dictionaries.{columns, cost_row, opening}
-use Rattle.bl_tableau.specs.Pivots.{replay, IsPivot, IsFirstWide, pivot_place}
-use Rattle.bl_tableau.specs.Runs.{Run, current, width_of, height_of, KeepsReplay, FailsFirstAt}
+use Rattle.bl_simplex.specs.Dictionaries.{columns, cost_row, opening, width_of, height_of}
+use Rattle.bl_simplex.specs.Pivots.{replay, IsPivot, IsFirstWide, pivot_place, FailsFirstAt}
+use Rattle.bl_tableau.specs.Runs.{Run, current, KeepsReplay}
 use Rattle.std.specs.Prelude.{Some, slice_index, slice_set}
 use Rattle.bl_tableau.proofs.RunSteps.{Agree, first_wide_agrees, keeps_pivot, keeps_spent, narrow_pivot, written_back}
 use Rattle.bl_tableau.proofs.tableau.Tableau.pivot.Goals as goal

@@ -1,7 +1,7 @@
 use Rattle.std.proofs.Common.{◌≡◌, ℕ, ◌+◌, List, length, ◌∙◌, false, sym, ap, subst, arith}
 use Rattle.std.specs.Vec.{vec_capacity}
-use Rattle.bl_tableau.specs.Dictionaries.{columns}
-use Rattle.bl_tableau.specs.Runs.{height_of, KeepsReplay}
+use Rattle.bl_simplex.specs.Dictionaries.{columns, height_of}
+use Rattle.bl_tableau.specs.Runs.{KeepsReplay}
 use Rattle.bl_tableau.proofs.RunSteps.{keeps_opening}
 use Rattle.bl_tableau.proofs.tableau.Tableau.start.Goals as goal
 

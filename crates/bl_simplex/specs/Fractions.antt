@@ -1,14 +1,17 @@
--- Fractions of two whole numbers, and the arithmetic that keeps both parts within 128 bits.
+-- Trusted: fractions of two whole numbers, and the arithmetic that keeps both parts within 128 bits.
 -- A part is narrow where its magnitude is at most 2^127 - 1.
 use Rattle.std.specs.Prelude.{◌≡◌, ℕ, ◌*◌, ◌/◌, ◌^◌, ◌<◌, Bool, ◌&&◌, nat_lt, Option, Some, None, if◌then◌else◌, ℤ, pos, negsuc, neg_ℤ, ◌+ℤ◌, ◌*ℤ◌, unsigned_abs, int_div}
 use Rattle.std.specs.declared.cmp.Ordering.{Ordering}
 use Rattle.std.specs.Ordering.{int_cmp}
-use Rattle.bl_frac.specs.Gcd.{gcd}
+use Rattle.bl_simplex.specs.Gcd.{gcd}
 
 -- numerator over denominator
 pub record Fraction : Type 0 where
   pub num : ℤ
   pub den : ℕ
+
+abbrev pub whole_fraction : ℤ → Fraction
+whole_fraction z = record { num = z; den = 1 }
 
 -- in lowest terms, with a positive denominator and narrow parts
 pub record IsReduced (f : Fraction) : Type 0 where

@@ -1,8 +1,8 @@
--- The dictionary of the simplex method over a box (Chvatal 1983), and the one that a problem begins with.
+-- Trusted: the dictionary of the simplex method over a box (Chvatal 1983), and the one that a problem begins with.
 use Rattle.std.specs.Prelude.{ℕ, ◌+◌, ◌-◌, Bool, nat_lt, ◌==◌, if◌then◌else◌, ℤ, pos, negsuc, neg_ℤ, ◌-ℤ◌, ◌*ℤ◌, int_lt, unsigned_abs, List, length}
 use Rattle.bl_whole.specs.Sums.{component, sum_below}
 use Rattle.bl_terms.specs.Bounds.{Problem, linear_at}
-use Rattle.bl_frac.specs.Fraction.{Fraction}
+use Rattle.bl_simplex.specs.Fractions.{Fraction, whole_fraction}
 
 -- Each row reads: its variable is its right side less the sum of entry times column variable. place i j is the entry of row i
 -- at column j, and at the column after the last one the right side. A label is the number of a variable.
@@ -11,9 +11,6 @@ pub record Dictionary : Type 0 where
   pub row_label : ℕ → ℕ
   pub column_label : ℕ → ℕ
 
-abbrev pub whole_fraction : ℤ → Fraction
-whole_fraction z = record { num = z; den = 1 }
-
 -- how many columns, which is also the number of the column of right sides
 abbrev pub columns : Problem → ℕ
 columns q = length q.area.lo
@@ -21,6 +18,13 @@ columns q = length q.area.lo
 -- the number of the cost row, the last one: the rows of the problem and a row for each side of the box stand before it
 abbrev pub cost_row : Problem → ℕ
 cost_row q = length q.rows + columns q
+
+-- how many rows a dictionary has, and how many numbers a row
+abbrev pub height_of : Problem → ℕ
+height_of q = cost_row q + 1
+
+abbrev pub width_of : Problem → ℕ
+width_of q = columns q + 1
 
 -- column j costs less the greater it is
 abbrev pub descends : Problem → ℕ → Bool

@@ -1,7 +1,7 @@
 use Rattle.std.proofs.Common.{sym, ap}
 use Rattle.std.specs.Option.{ok_or}
 use Rattle.bl_tableau.proofs.Places.{share_at_zero}
-use Rattle.bl_tableau.proofs.place.share.Goals as goal
+use Rattle.bl_tableau.proofs.place.scaled.Goals as goal
 
 pub returns-then-is_zero-clause-value : goal.returns-then-is_zero-clause-value
 returns-then-is_zero-clause-value c =
