@@ -1,5 +1,2 @@
 pub mod AuxLemmas
-pub mod CauseLemmas
-pub mod EndingLemmas
-pub mod RunLemmas
 pub mod SolveLemmas
