@@ -1,2 +1,5 @@
 pub mod AuxLemmas
+pub mod PromiseLemmas
 pub mod SolveLemmas
+pub mod StatusLemmas
+pub mod StepLemmas

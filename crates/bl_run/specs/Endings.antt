@@ -1,5 +1,5 @@
 -- Trusted: how a command ends, with the exit status of each ending and its line on the error output.
-use Rattle.std.specs.Prelude.{ℕ, ℤ, List, [], ◌∷◌, ◌++◌, Option, None, Some, codes, decimal}
+use Rattle.std.specs.Prelude.{ℕ, ℤ, List, [], ◌++◌, Option, None, Some, codes, decimal}
 use Rattle.std.specs.Fmt.{signed_decimal}
 use Rattle.std.specs.List.{flat_map}
 
@@ -16,18 +16,18 @@ pub data Target : Type 0 where
 
 -- The endings, in the order of their statuses. Files and rules are named by their texts.
 pub data Ending : Type 0 where
-  Done : Ending                                          -- an optimal point was found, or all was done
-  NoPoint : Ending                                       -- no point is bilevel feasible
-  BadWords : Ending                                      -- the words aren't understood
-  BadText : List ℕ → Place → List ℕ → Ending             -- the file's text breaks the rule there
-  NodesSpent : ℕ → ℕ → Ending                            -- the budget of nodes, and how many were made
-  FollowerSpent : ℕ → ℕ → List ℤ → Ending                -- the same of the follower's nodes, and the link
-  ReadFault : List ℕ → Ending                            -- reading the file failed
-  WriteFault : Target → Ending                           -- writing failed
-  OutOfMemory : Ending                                   -- no memory was left
-  NotAccepted : List ℕ → ℕ → List ℕ → Ending             -- the file's proof or trace breaks the rule at the line
-  Missing : List ℕ → Ending                              -- the file isn't there
-  ManyPoints : List ℕ → Ending                           -- the file's model has too many points
+  Done : Ending  -- an optimal point was found, or all was done
+  NoPoint : Ending  -- no point is bilevel feasible
+  BadWords : Ending  -- the words aren't understood
+  BadText : List ℕ → Place → List ℕ → Ending  -- the file's text breaks the rule there
+  NodesSpent : ℕ → ℕ → Ending  -- the budget of nodes, and how many were made
+  FollowerSpent : ℕ → ℕ → List ℤ → Ending  -- the same of the follower's nodes, and the link
+  ReadFault : List ℕ → Ending  -- reading the file failed
+  WriteFault : Target → Ending  -- writing failed
+  OutOfMemory : Ending  -- no memory was left
+  NotAccepted : List ℕ → ℕ → List ℕ → Ending  -- the file's proof or trace breaks the rule at the line
+  Missing : List ℕ → Ending  -- the file isn't there
+  ManyPoints : List ℕ → Ending  -- the file's model has too many points
 
 -- the exit status
 abbrev pub status_of : Ending → ℕ

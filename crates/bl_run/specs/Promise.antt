@@ -1,13 +1,13 @@
 -- Trusted: all that a top call promises of its words, its files and its outputs.
 use Rattle.std.specs.Prelude.{◌≡◌, ◌⊎◌, ℕ, ◌≤◌, List, Option, None, Some, ⊤}
-use Rattle.bl_outer.specs.Count.{Rose, Grew}
+use Rattle.bl_outer.specs.Count.{Grew}
 use Rattle.bl_outer.specs.Files.{Files, IfTold, Told}
 use Rattle.bl_outer.specs.Shelf.{ShelfState, FaultsOn, NoReadFault}
 use Rattle.bl_outer.specs.Sink.{SinkState, Adds, AddsPrefix}
 use Rattle.bl_terms.specs.Programs.{root}
 use Rattle.bl_terms.specs.Trees.{point_count}
 use Rattle.bl_run.specs.Words.{AreSolveWords, AreRefused}
-use Rattle.bl_run.specs.Endings.{Place, Target, ToFile, ToOutput, Ending, Done, NoPoint, BadWords, BadText, NodesSpent, FollowerSpent, ReadFault, WriteFault, OutOfMemory, NotAccepted, Missing, ManyPoints, status_of, line_of}
+use Rattle.bl_run.specs.Endings.{Place, ToFile, ToOutput, Ending, Done, NoPoint, BadWords, BadText, ReadFault, WriteFault, OutOfMemory, Missing, status_of, line_of}
 use Rattle.bl_run.specs.Solve.{Run, program, report, Reads, RefusesText, IsMissing, IsCause}
 use Rattle.bl_limits.specs.declared.TheConstants.{MAX_WALK_POINTS}
 

@@ -10,7 +10,7 @@ use Rattle.bl_run.specs.Words.{SolveWords}
 use Rattle.bl_run.specs.Texts.{IsMpsText, IsMpsFault, IsAuxText, IsAuxFault, IsNotYet}
 use Rattle.bl_run.specs.Report.{Statement, Best, None, report_of}
 use Rattle.bl_run.specs.Report as answer
-use Rattle.bl_run.specs.Endings.{Place, Target, ToFile, ToOutput, Ending, Done, NoPoint, BadWords, BadText, NodesSpent, FollowerSpent, ReadFault, WriteFault, OutOfMemory, NotAccepted, Missing, ManyPoints}
+use Rattle.bl_run.specs.Endings.{Place, ToFile, ToOutput, Ending, Done, NoPoint, BadWords, BadText, NodesSpent, FollowerSpent, ReadFault, WriteFault, OutOfMemory, NotAccepted, Missing, ManyPoints}
 use Rattle.bl_limits.specs.declared.TheConstants.{MAX_WALK_POINTS}
 
 -- One run: its words, the texts of its files, what they say, and the statement that answers them. All that is promised of a

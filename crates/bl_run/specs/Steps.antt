@@ -1,5 +1,5 @@
 -- Internal: what the private calls of a command promise one another.
-use Rattle.std.specs.Prelude.{◌≡◌, ℕ, ◌<◌, ◌≤◌, List, length, Option, Ok, Err, ⊤, codes}
+use Rattle.std.specs.Prelude.{◌≡◌, ℕ, ◌<◌, List, length, Option, Ok, Err, ⊤, codes}
 use Rattle.std.specs.declared.result.Result.{Result}
 use Rattle.bl_outer.specs.Files.{Files, IfTold, IsAbsent}
 use Rattle.bl_outer.specs.Files as outer

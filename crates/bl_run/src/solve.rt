@@ -184,10 +184,12 @@ fn report_of(
             text: Vec::from_slice(alloc, INFEASIBLE)?,
         });
     };
-    let value = model.value_of(&best.point);
-    let follower = follower_value(model, &best.point);
+    let point = best.point.as_slice();
+    let value = model.value_of(point);
+    let follower = follower_value(model, point);
+    let text = optimal_report(alloc, columns, point, value, follower)?;
     Ok(Report {
         answer: Answer::Optimal,
-        text: optimal_report(alloc, columns, &best.point, value, follower)?,
+        text,
     })
 }

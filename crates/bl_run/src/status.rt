@@ -94,7 +94,10 @@ impl Failure<'_> {
         let _ = match self {
             Failure::Words => put_all(err, &[b"mibs: words not understood\n"]),
             Failure::NotYet(file) => put_all(err, &[b"mibs: ", file.as_bytes(), b": NotYet\n"]),
-            Failure::ReadFault(file) => put_all(err, &[b"mibs: read fault: ", file.as_bytes(), b"\n"]),
+            Failure::ReadFault(file) => put_all(
+                err,
+                &[b"mibs: read fault: ", file.as_bytes(), b"\n"],
+            ),
             Failure::WriteFault => put_all(err, &[b"mibs: write fault\n"]),
             Failure::Memory => put_all(err, &[b"mibs: want of memory\n"]),
             Failure::Missing(file) => put_all(err, &[b"mibs: ", file.as_bytes(), b": missing\n"]),

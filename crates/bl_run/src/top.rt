@@ -82,8 +82,10 @@ fn command<'a, F: Shelf, O: Sink>(
         (record { files = F.state files.new; out = O.state out.new })
         (result_ending result) }
 {
-    let words = solve_words(words).ok_or(Failure::Words)?;
-    solve(alloc, words, files, out)
+    match solve_words(words) {
+        Some(asked) => solve(alloc, asked, files, out),
+        None => Err(Failure::Words),
+    }
 }
 
 /// The answer where not even the words could be read for want of memory.
