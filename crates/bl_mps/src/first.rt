@@ -13,7 +13,7 @@ use crate::raw::{name_of, raw_columns, raw_rows};
 use crate::rows::read_rows;
 use crate::sections::{Sections, split_sections};
 use crate::stop::Stop;
-use bl_model::RawMps;
+use bl_raw::RawMps;
 use std::alloc::{AllocError, Global};
 
 /// The largest text.

@@ -12,7 +12,7 @@ ghost use Rattle.bl_raw.specs.Raw.{IsSide, IsRow, IsColumn};
 use crate::columns::Columns;
 use crate::numbers::Numbers;
 use crate::rows::{Rows, Sense};
-use bl_model::{Listed, Name, RawColumn, RawRow};
+use bl_raw::{Listed, Name, RawColumn, RawRow};
 use std::alloc::{AllocError, Global};
 
 /// A name of its own.

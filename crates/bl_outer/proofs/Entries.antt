@@ -12,7 +12,7 @@ use Rattle.std.proofs.lemmas.List.{get_or_default, get_or_push, get_or_append_le
 use Rattle.bl_outer.specs.Files.{Files, Holds, IsPresent, IsAbsent, Empties, Appends, AppendsPrefix}
 use Rattle.std.specs.Bool.{OnTrue, OnFalse}
 use Rattle.bl_outer.specs.Sink.{Adds, AddsPrefix}
-use Rattle.bl_outer.specs.Mem.{Entries, IsFirst, NamesStay, files_of, name_at}
+use Rattle.bl_outer.specs.MemFile.{Entries, IsFirst, NamesStay, files_of, name_at}
 
 -- the order of names
 abbrev order : List ℕ → List ℕ → Ordering

@@ -11,7 +11,7 @@ use Rattle.bl_outer.specs.declared.text.Got.{Got}
 use Rattle.bl_outer.specs.declared.text.ReadFail.{ReadFail}
 use Rattle.bl_outer.specs.Files.{Files, IfTold, Holds, IsPresent, bytes_of}
 use Rattle.bl_outer.specs.Shelf.{Mode, Reading, GivesNext, chosen_name, chosen_place}
-use Rattle.bl_outer.specs.Text.{IsPrefix, IsCut, IsRead}
+use Rattle.bl_outer.specs.Text.{IsPrefix, IsTruncated, IsRead}
 
 -- the text is the first bytes of the file of this name
 pub record HasRead (name text : List ℕ) (files : Files) : Type 0 where
@@ -84,7 +84,7 @@ module _ (name text given : List ℕ) (n : ℕ) (mode : Mode) (at : mode ≡ Rea
       held (get files name) text there (whole_bytes (bytes_of files name) text given n h.front (gives.1 none))
 
   pub cut_read : (told : Option Files) (limit : ℕ) → length text ≤ limit → limit - length text < n → IfTold told (λ files. IsPresent files name) → IfTold told (HasRead name text)
-      → IfTold told (GivesNext mode n given) → IfTold told (IsCut name limit (text ++ take (limit - length text) given))
+      → IfTold told (GivesNext mode n given) → IfTold told (IsTruncated name limit (text ++ take (limit - length text) given))
   cut_read None limit within past there h next = tt
   cut_read (Some files) limit within past there h next =
       let gives = subst (λ m. GivesNext m n given files) at next in

@@ -1,4 +1,4 @@
--- What is chosen in a folder.
+-- Internal: what is chosen in a folder.
 use Rattle.std.specs.Prelude.{string_bytes}
 use Rattle.bl_outer.specs.declared.dir_shelf.ChosenFile.{ChosenFile}
 use Rattle.bl_outer.specs.declared.dir_shelf.ChosenFile.TheVariants as chosen

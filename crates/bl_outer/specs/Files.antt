@@ -1,4 +1,4 @@
--- The files of a shelf: a finite map from names to bytes. A name is the bytes of its text.
+-- Trusted: the files of a shelf, which are a finite map from names to bytes. A name is the bytes of its text.
 use Rattle.std.specs.Prelude.{◌≡◌, ◌≢◌, ℕ, List, [], ◌++◌, take, ◌⊎◌, ⊤, None, Some, IsSome, unwrap_or}
 use Rattle.std.specs.declared.option.Option.{Option}
 use Rattle.std.specs.Option.{option_map}

@@ -1,5 +1,11 @@
--- What a `put` adds to the bytes of a sink.
+-- Trusted: what a sink tells of itself, and what a `put` adds to its bytes.
 use Rattle.std.specs.Prelude.{◌≡◌, ℕ, List, ◌++◌, take}
+use Rattle.std.specs.declared.option.Option.{Option}
+
+-- the bytes so far, None where the sink doesn't tell them, and how many calls of `put` failed
+pub record SinkState : Type 0 where
+  pub bytes : Option (List ℕ)
+  pub faults : ℕ
 
 -- the piece stands at the end
 abbrev pub Adds : List ℕ → List ℕ → List ℕ → Type 0

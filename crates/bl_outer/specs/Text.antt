@@ -1,19 +1,20 @@
--- What reading a whole file answers and leaves.
+-- Trusted: what reading a whole file answers and leaves.
 use Rattle.std.specs.Prelude.{◌≡◌, ℕ, ◌<◌, ◌≤◌, List, ◌++◌, take, length, Ok, Err}
 use Rattle.std.specs.declared.result.Result.{Result}
 use Rattle.bl_outer.specs.declared.text.Got.{Got}
 use Rattle.bl_outer.specs.declared.text.Got.TheVariants.{Whole, Missing, Longer}
 use Rattle.bl_outer.specs.declared.text.ReadFail.{ReadFail}
 use Rattle.bl_outer.specs.declared.text.ReadFail.TheVariants.{Failed, Memory}
-use Rattle.bl_outer.specs.Count.{Rose}
+use Rattle.bl_outer.specs.Count.{Grew}
 use Rattle.bl_outer.specs.Files.{Files, Holds, IsAbsent, bytes_of}
+use Rattle.bl_outer.specs.Shelf.{ShelfState, NoReadFault, FaultsOn}
 
 -- front is a first part of the list
 abbrev pub IsPrefix : List ℕ → List ℕ → Type 0
 IsPrefix front xs = (rest : List ℕ) × (xs ≡ front ++ rest)
 
 -- the file has more bytes than the limit, and these are the first of them
-pub record IsCut (name : List ℕ) (limit : ℕ) (text : List ℕ) (files : Files) : Type 0 where
+pub record IsTruncated (name : List ℕ) (limit : ℕ) (text : List ℕ) (files : Files) : Type 0 where
   pub bytes : List ℕ
   pub held : Holds files name bytes
   pub longer : limit < length bytes
@@ -22,7 +23,7 @@ pub record IsCut (name : List ℕ) (limit : ℕ) (text : List ℕ) (files : File
 -- what was read of the file of this name, by the answer
 abbrev pub IsRead : Result Got ReadFail → List ℕ → ℕ → List ℕ → Files → Type 0
 IsRead (Ok Whole) name limit text files = Holds files name text
-IsRead (Ok Longer) name limit text files = IsCut name limit text files
+IsRead (Ok Longer) name limit text files = IsTruncated name limit text files
 IsRead (Ok Missing) name limit text files = IsAbsent files name
 IsRead (Err _) name limit text files = IsPrefix text (bytes_of files name)
 
@@ -34,14 +35,14 @@ HasLength (Ok Missing) limit len = len ≡ 0
 HasLength (Err _) limit len = len ≤ limit
 
 -- the read faults rose where the answer is Failed, and stayed after any other
-abbrev pub CountsFault : ℕ → ℕ → Result Got ReadFail → Type 0
-CountsFault before now (Ok _) = now ≡ before
-CountsFault before now (Err Failed) = (before ≤ now) × Rose before now
-CountsFault before now (Err Memory) = now ≡ before
+abbrev pub CountsFailed : List ℕ → ShelfState → ShelfState → Result Got ReadFail → Type 0
+CountsFailed name old new (Ok _) = NoReadFault old new
+CountsFailed name old new (Err Failed) = FaultsOn name old new
+CountsFailed name old new (Err Memory) = NoReadFault old new
 
 -- the misses rose where the answer is Missing, and stayed after any other
-abbrev pub CountsMissing : ℕ → ℕ → Result Got ReadFail → Type 0
-CountsMissing before now (Ok Whole) = now ≡ before
-CountsMissing before now (Ok Longer) = now ≡ before
-CountsMissing before now (Ok Missing) = (before ≤ now) × Rose before now
-CountsMissing before now (Err _) = now ≡ before
+abbrev pub CountsMissing : ShelfState → ShelfState → Result Got ReadFail → Type 0
+CountsMissing old new (Ok Whole) = new.misses ≡ old.misses
+CountsMissing old new (Ok Longer) = new.misses ≡ old.misses
+CountsMissing old new (Ok Missing) = Grew old.misses new.misses
+CountsMissing old new (Err _) = new.misses ≡ old.misses

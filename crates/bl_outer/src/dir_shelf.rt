@@ -1,12 +1,14 @@
-ghost use Rattle.std.specs.Prelude.{◌≡◌, ◌+◌, ◌≤◌, None, IfOk, OnErr, drop, length};
+//! A folder of the file system.
 
-use crate::count::risen;
+ghost use Rattle.std.specs.Prelude.{◌≡◌, ◌+◌, ◌≤◌, IfOk, OnErr, drop, length};
+
+use crate::count::saturating_increment;
 use crate::shelf::{Found, Shelf, ShelfFail};
 use std::alloc::Global;
 use std::io::{ErrorKind, Read, Write};
 use std::path::Path;
 use std::rt::Files;
-use std::{fs, io};
+use std::{fs, io, mem};
 
 const BLOCK: usize = 16384;
 
@@ -32,18 +34,24 @@ pub struct DirShelf<'a, R: Files> {
     read_faults: u64,
     write_faults: u64,
     misses: u64,
+    faulted: Option<String>,
 }
 
 impl<'a, R: Files> DirShelf<'a, R> {
+    ghost use Rattle.std.specs.Prelude.{None};
     ghost use Rattle.bl_outer.specs.Shelf.{Nothing, Reading, Writing};
     ghost use Rattle.bl_outer.specs.DirShelf.{mode_of};
 
     /// The shelf of a folder, of which the empty text is the current one.
     pub fn new(rt: &'a R, alloc: Global, folder: &'a str) -> DirShelf<'a, R>
-        ensures chosen { ⟦<DirShelf<'a, R> as Shelf>⟧.mode result ≡ Nothing }
-        ensures read_faults { ⟦<DirShelf<'a, R> as Shelf>⟧.read_faults result ≡ 0 }
-        ensures write_faults { ⟦<DirShelf<'a, R> as Shelf>⟧.write_faults result ≡ 0 }
-        ensures misses { ⟦<DirShelf<'a, R> as Shelf>⟧.misses result ≡ 0 }
+        ensures { ⟦<DirShelf<'a, R> as Shelf>⟧.state result ≡ record {
+          contents = None;
+          mode = Nothing;
+          read_faults = 0;
+          write_faults = 0;
+          misses = 0;
+          faulted = None;
+        } }
     {
         DirShelf {
             rt,
@@ -53,6 +61,7 @@ impl<'a, R: Files> DirShelf<'a, R> {
             read_faults: 0,
             write_faults: 0,
             misses: 0,
+            faulted: None,
         }
     }
 
@@ -79,17 +88,18 @@ impl<'a, R: Files> DirShelf<'a, R> {
 }
 
 impl<'a, R: Files> Shelf for DirShelf<'a, R> {
+    ghost use Rattle.std.specs.Prelude.{None, string_bytes};
+    ghost use Rattle.std.specs.Option.{option_map};
     ghost use Rattle.bl_outer.specs.DirShelf.{mode_of};
 
-    ghost contents = { λ _. None };
-
-    ghost mode = { λ shelf. mode_of shelf.chosen };
-
-    ghost read_faults = { λ shelf. shelf.read_faults };
-
-    ghost write_faults = { λ shelf. shelf.write_faults };
-
-    ghost misses = { λ shelf. shelf.misses };
+    ghost state = { λ shelf. record {
+      contents = None;
+      mode = mode_of shelf.chosen;
+      read_faults = shelf.read_faults;
+      write_faults = shelf.write_faults;
+      misses = shelf.misses;
+      faulted = option_map string_bytes shelf.faulted;
+    } };
 
     fn find(&mut self, name: &str) -> Result<Found, ShelfFail> {
         self.chosen = ChosenFile::Nothing;
@@ -99,26 +109,38 @@ impl<'a, R: Files> Shelf for DirShelf<'a, R> {
                 Ok(Found::Here)
             }
             Err(error) if error.kind() == ErrorKind::NotFound => {
-                self.misses = risen(self.misses);
+                self.misses = saturating_increment(self.misses);
                 Ok(Found::Missing)
             }
             Err(_) => {
-                self.read_faults = risen(self.read_faults);
+                self.read_faults = saturating_increment(self.read_faults);
+                self.faulted = String::from_str(self.alloc, name).ok();
                 Err(ShelfFail)
             }
         }
     }
 
     fn next(&mut self, into: &mut [u8]) -> Result<usize, ShelfFail> {
-        let ChosenFile::Reading { place, file, .. } = &mut self.chosen else {
+        let chosen = mem::replace(&mut self.chosen, ChosenFile::Nothing);
+        let ChosenFile::Reading {
+            name,
+            mut place,
+            mut file,
+        } = chosen
+        else {
             unreachable!()
         };
-        if let Ok(given) = read_block(file, place, into) {
-            return Ok(given);
+        match read_block(&mut file, &mut place, into) {
+            Ok(given) => {
+                self.chosen = ChosenFile::Reading { name, place, file };
+                Ok(given)
+            }
+            Err(fail) => {
+                self.read_faults = saturating_increment(self.read_faults);
+                self.faulted = Some(name);
+                Err(fail)
+            }
         }
-        self.chosen = ChosenFile::Nothing;
-        self.read_faults = risen(self.read_faults);
-        Err(ShelfFail)
     }
 
     fn begin(&mut self, name: &str) -> Result<(), ShelfFail> {
@@ -129,7 +151,7 @@ impl<'a, R: Files> Shelf for DirShelf<'a, R> {
                 Ok(())
             }
             Err(_) => {
-                self.write_faults = risen(self.write_faults);
+                self.write_faults = saturating_increment(self.write_faults);
                 Err(ShelfFail)
             }
         }
@@ -140,7 +162,7 @@ impl<'a, R: Files> Shelf for DirShelf<'a, R> {
             unreachable!()
         };
         if file.write_all(piece).is_err() {
-            self.write_faults = risen(self.write_faults);
+            self.write_faults = saturating_increment(self.write_faults);
             return Err(ShelfFail);
         }
         Ok(())
@@ -153,7 +175,7 @@ impl<'a, R: Files> Shelf for DirShelf<'a, R> {
         let flushed = file.flush();
         self.chosen = ChosenFile::Nothing;
         if flushed.is_err() {
-            self.write_faults = risen(self.write_faults);
+            self.write_faults = saturating_increment(self.write_faults);
             return Err(ShelfFail);
         }
         Ok(())

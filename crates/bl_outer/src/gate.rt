@@ -1,3 +1,5 @@
+//! The gate that workers pass.
+
 /// A moment at which a worker passes the gate.
 #[derive(Clone, Copy, Debug, PartialEq, Eq)]
 pub enum Stage {

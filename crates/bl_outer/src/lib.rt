@@ -6,11 +6,11 @@
 
 mod count;
 mod dir_shelf;
+mod fault_plan;
 mod gate;
 mod mem_file;
 mod mem_shelf;
 mod mem_sink;
-mod plan;
 mod shelf;
 mod sink;
 mod std_sink;

@@ -1,12 +1,13 @@
-// A file in memory, and lists of such files. The first file of a name counts.
-ghost use Rattle.std.specs.Prelude.{◌≡◌, ◌↔◌, ◌++◌, false, IsTrue, IfOk, OnOk, OnErr, IfSome, IfNone};
+//! A file in memory, and lists of such files. The first file of a name counts.
+
+ghost use Rattle.std.specs.Prelude.{◌≡◌, ◌↔◌, ◌++◌, false, IsTrue, IfOk, OnOk, OnErr, IfSome, IfNone, string_bytes};
 ghost use Rattle.std.specs.FinMap.{insert};
 ghost use Rattle.std.specs.Bool.{OnTrue, OnFalse};
 ghost use Rattle.bl_outer.specs.Files.{Holds, IsAbsent, Appends, AppendsPrefix};
 ghost use Rattle.bl_outer.specs.Sink.{Adds, AddsPrefix};
-ghost use Rattle.bl_outer.specs.Mem.{IsFirst, NamesStay, files_of, name_at};
+ghost use Rattle.bl_outer.specs.MemFile.{IsFirst, NamesStay, files_of, name_at};
 
-use crate::plan::add_piece;
+use crate::fault_plan::add_piece;
 use std::alloc::{AllocError, Global};
 use std::marker::Model;
 
@@ -33,6 +34,12 @@ impl MemFile {
             name: String::from_str(alloc, name)?,
             bytes: Vec::from_slice(alloc, bytes)?,
         })
+    }
+
+    fn name(&self) -> &str
+        ensures { result.now ≡ self.now.0 }
+    {
+        self.name.as_str()
     }
 
     fn is_named(&self, name: &str) -> bool
@@ -79,12 +86,21 @@ pub(crate) fn place_of(files: &[MemFile], name: &str) -> Option<usize>
 }
 
 /// The bytes of the file at this place.
-pub(crate) fn bytes_at(files: &[MemFile], file: usize) -> &[u8]
-    requires { IsFirst files.now file }
-    ensures { Holds (files_of files.now) (name_at files.now file) result.now }
+pub(crate) fn bytes_at(files: &[MemFile], index: usize) -> &[u8]
+    requires { IsFirst files.now index }
+    ensures { Holds (files_of files.now) (name_at files.now index) result.now }
 {
-    let file = &files[file];
+    let file = &files[index];
     file.bytes()
+}
+
+/// A copy of the name of the file at this place, where there is memory for it.
+pub(crate) fn copied_name(alloc: Global, files: &[MemFile], index: usize) -> Option<String>
+    requires { IsFirst files.now index }
+    ensures { IfSome result (λ name. string_bytes name ≡ name_at files.now index) }
+{
+    let file = &files[index];
+    String::from_str(alloc, file.name()).ok()
 }
 
 /// Gives the file of this name these bytes, and answers its place.
@@ -116,15 +132,15 @@ pub(crate) fn put_file(
 
 /// Adds the piece at the end of the file at this place, or a part of it where the call is to fail,
 /// and says whether the whole piece was added.
-pub(crate) fn append_at(files: &mut [MemFile], file: usize, piece: &[u8], fails: bool) -> bool
-    requires { IsFirst files.old file }
-    ensures whole { OnTrue result (Appends (name_at files.old file) piece.now
+pub(crate) fn append_at(files: &mut [MemFile], index: usize, piece: &[u8], fails: bool) -> bool
+    requires { IsFirst files.old index }
+    ensures whole { OnTrue result (Appends (name_at files.old index) piece.now
         (files_of files.old) (files_of files.new)) }
-    ensures part { OnFalse result (AppendsPrefix (name_at files.old file) piece.now
+    ensures part { OnFalse result (AppendsPrefix (name_at files.old index) piece.now
         (files_of files.old) (files_of files.new)) }
     ensures planned { OnTrue result (fails ≡ false) }
     ensures names { NamesStay files.old files.new }
 {
-    let file = &mut files[file];
+    let file = &mut files[index];
     file.append(piece, fails)
 }

@@ -1,10 +1,12 @@
-ghost use Rattle.std.specs.Prelude.{◌≡◌, ◌-◌, ◌<◌, ◌≤◌, [], Some, IfOk, OnOk, OnErr, IsErr, IsTrue, is_err, take, drop, length};
-ghost use Rattle.std.specs.Option.{option_map};
-ghost use Rattle.std.specs.FinMap.{empty, get, insert};
+//! Files in memory.
 
-use crate::count::risen;
-use crate::mem_file::{MemFile, append_at, bytes_at, place_of, put_file};
-use crate::plan::CallPlan;
+ghost use Rattle.std.specs.Prelude.{◌≡◌, ◌-◌, ◌<◌, ◌≤◌, [], IfOk, OnOk, OnErr, take, drop, length};
+ghost use Rattle.std.specs.Option.{option_map};
+ghost use Rattle.std.specs.FinMap.{get, insert};
+
+use crate::count::saturating_increment;
+use crate::fault_plan::FaultPlan;
+use crate::mem_file::{MemFile, append_at, bytes_at, copied_name, place_of, put_file};
 use crate::shelf::{Found, Shelf, ShelfFail};
 use std::alloc::{AllocError, Global};
 use std::marker::Model;
@@ -28,17 +30,21 @@ pub struct MemShelf {
     read_faults: u64,
     write_faults: u64,
     misses: u64,
-    plan: CallPlan,
+    faulted: Option<String>,
+    plan: FaultPlan,
 }
 
 impl Model for MemShelf {
-    ghost use Rattle.bl_outer.specs.Mem.{ShelfState, files_of};
+    ghost use Rattle.bl_outer.specs.MemShelf.{MemShelfState};
     ghost use Rattle.bl_outer.specs.Codes.{shelf_code};
 
-    ghost Value = { ShelfState };
+    ghost Value = { MemShelfState };
 
     ghost coded = { shelf_code };
 
+    ghost use Rattle.std.specs.Prelude.{string_bytes};
+    ghost use Rattle.std.specs.Option.{option_map};
+    ghost use Rattle.bl_outer.specs.MemFile.{files_of};
     ghost use Rattle.bl_outer.specs.MemShelf.{mode_of, IsInPlace};
 
     ghost view = { λ a. record {
@@ -47,6 +53,7 @@ impl Model for MemShelf {
       read_faults = a.read_faults;
       write_faults = a.write_faults;
       misses = a.misses;
+      faulted = option_map string_bytes a.faulted;
       plan = a.plan;
     } };
 
@@ -54,8 +61,10 @@ impl Model for MemShelf {
 }
 
 impl MemShelf {
-    ghost use Rattle.bl_outer.specs.Mem.{empty_shelf};
-    ghost use Rattle.bl_outer.specs.Count.{counted};
+    ghost use Rattle.std.specs.Prelude.{string_bytes};
+    ghost use Rattle.std.specs.Option.{option_map};
+    ghost use Rattle.bl_outer.specs.Count as counts;
+    ghost use Rattle.bl_outer.specs.MemShelf.{empty_shelf};
     ghost use Rattle.bl_outer.specs.Shelf.{Nothing};
 
     /// No files. The numbers in `fails` count the calls of the trait from 1.
@@ -69,7 +78,8 @@ impl MemShelf {
             read_faults: 0,
             write_faults: 0,
             misses: 0,
-            plan: CallPlan::new(alloc, fails)?,
+            faulted: None,
+            plan: FaultPlan::new(alloc, fails)?,
         })
     }
 
@@ -91,53 +101,53 @@ impl MemShelf {
         Some(bytes_at(&self.files, file))
     }
 
-    fn fail_read(&mut self) -> ShelfFail
-        ensures { self.new
-            ≡ record self.old { mode = Nothing; read_faults = counted self.old.read_faults } }
+    fn fail_read(&mut self, name: Option<String>) -> ShelfFail
+        ensures { self.new ≡ record self.old {
+          mode = Nothing;
+          read_faults = counts.saturating_increment self.old.read_faults;
+          faulted = option_map string_bytes name;
+        } }
     {
         self.chosen = Chosen::Nothing;
-        self.read_faults = risen(self.read_faults);
+        self.read_faults = saturating_increment(self.read_faults);
+        self.faulted = name;
         ShelfFail
     }
 
     fn fail_write(&mut self) -> ShelfFail
-        ensures { self.new ≡ record self.old { write_faults = counted self.old.write_faults } }
+        ensures { self.new ≡ record self.old {
+          write_faults = counts.saturating_increment self.old.write_faults;
+        } }
     {
-        self.write_faults = risen(self.write_faults);
+        self.write_faults = saturating_increment(self.write_faults);
         ShelfFail
     }
 }
 
 impl Shelf for MemShelf {
+    ghost use Rattle.std.specs.Prelude.{IsErr, IsTrue, is_err};
     ghost use Rattle.bl_outer.specs.Count.{HasCause};
+    ghost use Rattle.bl_outer.specs.FaultPlan.{is_to_fail, after_call};
     ghost use Rattle.bl_outer.specs.Files.{Empties, Appends, AppendsPrefix};
-    ghost use Rattle.bl_outer.specs.Mem.{is_planned, after_call};
-    ghost use Rattle.bl_outer.specs.Shelf.{Nothing, IsReading, IsWriting, chosen_name, mode_found, mode_read, mode_begun, FindsIn, GivesNext, CountsMiss};
+    ghost use Rattle.bl_outer.specs.MemShelf.{shelf_state};
+    ghost use Rattle.bl_outer.specs.Shelf.{Nothing, IsReading, IsWriting, chosen_name, mode_found, mode_read, mode_begun, FindsIn, GivesNext, OnlyReads, OnlyWrites, CountsFault, CountsMiss};
 
-    ghost contents = { λ shelf. Some shelf.files };
-
-    ghost mode = { λ shelf. shelf.mode };
-
-    ghost read_faults = { λ shelf. shelf.read_faults };
-
-    ghost write_faults = { λ shelf. shelf.write_faults };
-
-    ghost misses = { λ shelf. shelf.misses };
+    ghost state = { shelf_state };
 
     fn find(&mut self, name: &str) -> Result<Found, ShelfFail>
         ensures chosen { self.new.mode ≡ mode_found name.now result }
         ensures exact { FindsIn result name.now self.old.files }
-        ensures files { self.new.files ≡ self.old.files }
 
-        ensures read_cause { HasCause self.old.read_faults self.new.read_faults result }
-        ensures missed { CountsMiss self.old.misses self.new.misses result }
-        ensures write_faults { self.new.write_faults ≡ self.old.write_faults }
+        ensures reads { OnlyReads (shelf_state self.old) (shelf_state self.new) }
+        ensures fault { CountsFault name.now (shelf_state self.old) (shelf_state self.new) result }
+        ensures miss { CountsMiss (shelf_state self.old) (shelf_state self.new) result }
 
-        ensures planned { is_err result ≡ is_planned self.old.plan }
+        ensures planned { is_err result ≡ is_to_fail self.old.plan }
         ensures calls { self.new.plan ≡ after_call self.old.plan }
     {
         if self.plan.count() {
-            return Err(self.fail_read());
+            let name = String::from_str(self.alloc, name).ok();
+            return Err(self.fail_read(name));
         }
         match place_of(&self.files, name) {
             Some(file) => {
@@ -146,7 +156,7 @@ impl Shelf for MemShelf {
             }
             None => {
                 self.chosen = Chosen::Nothing;
-                self.misses = risen(self.misses);
+                self.misses = saturating_increment(self.misses);
                 Ok(Found::Missing)
             }
         }
@@ -161,21 +171,23 @@ impl Shelf for MemShelf {
         ensures bytes { IfOk result (λ n. GivesNext self.old.mode n into.new self.old.files) }
         ensures rest { IfOk result (λ n. drop n into.new ≡ drop n into.old) }
         ensures err { OnErr result (into.new ≡ into.old) }
-        ensures files { self.new.files ≡ self.old.files }
 
-        ensures read_cause { HasCause self.old.read_faults self.new.read_faults result }
+        ensures reads { OnlyReads (shelf_state self.old) (shelf_state self.new) }
+        ensures fault { CountsFault
+            (chosen_name self.old.mode) (shelf_state self.old) (shelf_state self.new) result }
         ensures misses { self.new.misses ≡ self.old.misses }
-        ensures write_faults { self.new.write_faults ≡ self.old.write_faults }
 
-        ensures planned { is_err result ≡ is_planned self.old.plan }
+        ensures planned { is_err result ≡ is_to_fail self.old.plan }
         ensures calls { self.new.plan ≡ after_call self.old.plan }
     {
-        if self.plan.count() {
-            return Err(self.fail_read());
-        }
+        let fails = self.plan.count();
         let Chosen::Reading { file, place } = self.chosen else {
             unreachable!()
         };
+        if fails {
+            let name = copied_name(self.alloc, &self.files, file);
+            return Err(self.fail_read(name));
+        }
         let given = copy_from(bytes_at(&self.files, file), place, into);
         self.chosen = Chosen::Reading {
             file,
@@ -189,11 +201,10 @@ impl Shelf for MemShelf {
         ensures ok { OnOk result (Empties name.now self.old.files self.new.files) }
         ensures err { OnErr result (self.new.files ≡ self.old.files) }
 
-        ensures write_cause { HasCause self.old.write_faults self.new.write_faults result }
-        ensures read_faults { self.new.read_faults ≡ self.old.read_faults }
-        ensures misses { self.new.misses ≡ self.old.misses }
+        ensures writes { OnlyWrites (shelf_state self.old) (shelf_state self.new) }
+        ensures fault { HasCause self.old.write_faults self.new.write_faults result }
 
-        ensures planned { IsTrue (is_planned self.old.plan) → IsErr result }
+        ensures planned { IsTrue (is_to_fail self.old.plan) → IsErr result }
         ensures calls { self.new.plan ≡ after_call self.old.plan }
     {
         self.chosen = Chosen::Nothing;
@@ -216,11 +227,10 @@ impl Shelf for MemShelf {
         ensures err { OnErr result (AppendsPrefix (chosen_name self.old.mode) piece.now
             self.old.files self.new.files) }
 
-        ensures write_cause { HasCause self.old.write_faults self.new.write_faults result }
-        ensures read_faults { self.new.read_faults ≡ self.old.read_faults }
-        ensures misses { self.new.misses ≡ self.old.misses }
+        ensures writes { OnlyWrites (shelf_state self.old) (shelf_state self.new) }
+        ensures fault { HasCause self.old.write_faults self.new.write_faults result }
 
-        ensures planned { IsTrue (is_planned self.old.plan) → IsErr result }
+        ensures planned { IsTrue (is_to_fail self.old.plan) → IsErr result }
         ensures calls { self.new.plan ≡ after_call self.old.plan }
     {
         let fails = self.plan.count();
@@ -239,11 +249,10 @@ impl Shelf for MemShelf {
         ensures chosen { self.new.mode ≡ Nothing }
         ensures files { self.new.files ≡ self.old.files }
 
-        ensures write_cause { HasCause self.old.write_faults self.new.write_faults result }
-        ensures read_faults { self.new.read_faults ≡ self.old.read_faults }
-        ensures misses { self.new.misses ≡ self.old.misses }
+        ensures writes { OnlyWrites (shelf_state self.old) (shelf_state self.new) }
+        ensures fault { HasCause self.old.write_faults self.new.write_faults result }
 
-        ensures planned { is_err result ≡ is_planned self.old.plan }
+        ensures planned { is_err result ≡ is_to_fail self.old.plan }
         ensures calls { self.new.plan ≡ after_call self.old.plan }
     {
         self.chosen = Chosen::Nothing;

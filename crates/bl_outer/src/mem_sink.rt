@@ -1,10 +1,10 @@
-ghost use Rattle.std.specs.Prelude.{◌≡◌, Some, IsTrue, IsErr, IfOk, OnOk, OnErr};
-ghost use Rattle.bl_outer.specs.Count.{HasCause};
-ghost use Rattle.bl_outer.specs.Mem.{empty_sink, is_planned, after_call};
-ghost use Rattle.bl_outer.specs.Sink.{Adds, AddsPrefix};
+//! An output in memory.
 
-use crate::count::risen;
-use crate::plan::{CallPlan, add_piece};
+ghost use Rattle.std.specs.Prelude.{◌≡◌, IfOk};
+ghost use Rattle.bl_outer.specs.MemSink.{empty_sink};
+
+use crate::count::saturating_increment;
+use crate::fault_plan::{FaultPlan, add_piece};
 use crate::sink::{Sink, SinkFail};
 use std::alloc::{AllocError, Global};
 use std::marker::Model;
@@ -14,14 +14,14 @@ use std::marker::Model;
 #[derive(Drop)]
 pub struct MemSink {
     written: Vec<u8>,
-    plan: CallPlan,
+    plan: FaultPlan,
     faults: u64,
 }
 
 impl Model for MemSink {
-    ghost use Rattle.bl_outer.specs.Mem.{SinkState};
+    ghost use Rattle.bl_outer.specs.MemSink.{MemSinkState};
 
-    ghost Value = { SinkState };
+    ghost Value = { MemSinkState };
 
     ghost view = { λ a. record { bytes = a.written.items; faults = a.faults; plan = a.plan } };
 }
@@ -33,7 +33,7 @@ impl MemSink {
     {
         Ok(MemSink {
             written: Vec::new(alloc),
-            plan: CallPlan::new(alloc, fails)?,
+            plan: FaultPlan::new(alloc, fails)?,
             faults: 0,
         })
     }
@@ -47,23 +47,27 @@ impl MemSink {
 }
 
 impl Sink for MemSink {
-    ghost bytes = { λ sink. Some sink.bytes };
+    ghost use Rattle.std.specs.Prelude.{IsTrue, IsErr, OnOk, OnErr};
+    ghost use Rattle.bl_outer.specs.Count.{HasCause};
+    ghost use Rattle.bl_outer.specs.FaultPlan.{is_to_fail, after_call};
+    ghost use Rattle.bl_outer.specs.MemSink.{sink_state};
+    ghost use Rattle.bl_outer.specs.Sink.{Adds, AddsPrefix};
 
-    ghost faults = { λ sink. sink.faults };
+    ghost state = { sink_state };
 
     fn put(&mut self, piece: &[u8]) -> Result<(), SinkFail>
         ensures ok { OnOk result (Adds piece.now self.old.bytes self.new.bytes) }
         ensures err { OnErr result (AddsPrefix piece.now self.old.bytes self.new.bytes) }
-        ensures cause { HasCause self.old.faults self.new.faults result }
+        ensures fault { HasCause self.old.faults self.new.faults result }
 
-        ensures planned { IsTrue (is_planned self.old.plan) → IsErr result }
+        ensures planned { IsTrue (is_to_fail self.old.plan) → IsErr result }
         ensures calls { self.new.plan ≡ after_call self.old.plan }
     {
         let fails = self.plan.count();
         if add_piece(&mut self.written, piece, fails) {
             return Ok(());
         }
-        self.faults = risen(self.faults);
+        self.faults = saturating_increment(self.faults);
         Err(SinkFail)
     }
 }

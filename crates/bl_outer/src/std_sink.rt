@@ -1,7 +1,9 @@
-ghost use Rattle.std.specs.Prelude.{◌≡◌, None, OnOk};
+//! A writer as an output.
+
+ghost use Rattle.std.specs.Prelude.{OnOk};
 ghost use Rattle.std.specs.Io.KnownBytes.{Appends};
 
-use crate::count::risen;
+use crate::count::saturating_increment;
 use crate::sink::{Sink, SinkFail};
 use std::io;
 use std::io::Write;
@@ -16,22 +18,24 @@ pub struct StdSink<W: Write> {
 }
 
 impl<W: Write> StdSink<W> {
+    ghost use Rattle.std.specs.Prelude.{◌≡◌, None};
+
     /// The sink over a writer.
     pub fn new(writer: W) -> StdSink<W>
-        ensures { ⟦<StdSink<W> as Sink>⟧.faults result ≡ 0 }
+        ensures { ⟦<StdSink<W> as Sink>⟧.state result ≡ record { bytes = None; faults = 0 } }
     {
         StdSink { writer, faults: 0 }
     }
 }
 
 impl<W: Write> Sink for StdSink<W> {
-    ghost bytes = { λ _. None };
+    ghost use Rattle.std.specs.Prelude.{None};
 
-    ghost faults = { λ sink. sink.faults };
+    ghost state = { λ sink. record { bytes = None; faults = sink.faults } };
 
     fn put(&mut self, piece: &[u8]) -> Result<(), SinkFail> {
         if write_through(&mut self.writer, piece).is_err() {
-            self.faults = risen(self.faults);
+            self.faults = saturating_increment(self.faults);
             return Err(SinkFail);
         }
         Ok(())

@@ -1,7 +1,6 @@
-use crate::{
-    DirShelf, Gate, Got, MemShelf, MemSink, NoGate, ReadFail, Shelf, Sink, Stage, StdSink,
-    read_text,
-};
+//! Files and outputs, in memory and outside.
+
+use crate::{DirShelf, Got, MemShelf, MemSink, ReadFail, Shelf, Sink, StdSink, read_text};
 use std::path::PathBuf;
 use std::test::Fail;
 use std::{env, fs, io, process};
@@ -23,7 +22,7 @@ fn reads_up_to_the_limit(rt: HostRuntime) -> Result<(), Fail> {
     shelf.set("five", b"hello")?;
     shelf.set("long", vec![in rt.alloc(); 7u8; 40_000]?.as_slice())?;
     shelf.set("empty", b"")?;
-    for (name, limit, want, len) in [
+    for (name, limit, expected, len) in [
         ("five", 6, Got::Whole, 5),
         ("five", 5, Got::Whole, 5),
         ("five", 4, Got::Longer, 4),
@@ -34,7 +33,7 @@ fn reads_up_to_the_limit(rt: HostRuntime) -> Result<(), Fail> {
         ("none", 9, Got::Missing, 0),
     ] {
         let (got, read) = text_of(&rt, &mut shelf, name, limit)?;
-        assert_eq!(rt; got, Ok(want), "{name} up to {limit}");
+        assert_eq!(rt; got, Ok(expected), "{name} up to {limit}");
         assert_eq!(rt; read, len, "{name} up to {limit}");
     }
     Ok(())
@@ -78,12 +77,12 @@ fn writes_pieces(rt: HostRuntime) -> Result<(), Fail> {
     shelf.begin("trace")?;
     assert!(rt; shelf.append(b"three").is_err());
     shelf.append(b"ee")?;
-    for (name, want) in [
+    for (name, expected) in [
         ("cert", b"one two".as_slice()),
         ("trace", b"thee"),
         ("other", b"stays"),
     ] {
-        assert_eq!(rt; shelf.bytes(name).ok_or(name)?, want, "{name}");
+        assert_eq!(rt; shelf.bytes(name).ok_or(name)?, expected, "{name}");
     }
     assert!(rt; shelf.bytes("none").is_none());
     Ok(())
@@ -96,7 +95,6 @@ fn puts_pieces(rt: HostRuntime) -> Result<(), Fail> {
     assert!(rt; sink.put(b"two ").is_err());
     sink.put(b"!")?;
     assert_eq!(rt; sink.bytes(), b"one tw!".as_slice());
-    NoGate.at(0, Stage::Claimed);
     Ok(())
 }
 

@@ -1,8 +1,10 @@
+//! Reading a whole file.
+
 ghost use Rattle.std.specs.Prelude.{◌≡◌, [], vec_len};
 ghost use Rattle.bl_outer.specs.Files.{IfTold, IsPresent};
-ghost use Rattle.bl_outer.specs.Shelf.{IsReading, chosen_name, chosen_place};
+ghost use Rattle.bl_outer.specs.Shelf.{IsReading, chosen_name, chosen_place, OnlyReads};
 ghost use Rattle.bl_outer.specs.declared.text.ReadFail.TheVariants.{Failed, Memory};
-ghost use Rattle.bl_outer.specs.Text.{IsRead, HasLength, CountsFault, CountsMissing};
+ghost use Rattle.bl_outer.specs.Text.{IsRead, HasLength, CountsFailed, CountsMissing};
 
 use crate::shelf::{Found, Shelf, ShelfFail};
 use std::alloc::AllocError;
@@ -54,13 +56,12 @@ pub fn read_text<F: Shelf>(
     limit: u64,
     into: &mut Vec<u8>,
 ) -> Result<Got, ReadFail>
-    ensures text { IfTold (F.contents files.old) (IsRead result name.now limit into.new.items) }
+    ensures text { IfTold (F.state files.old).contents (IsRead result name.now limit into.new.items) }
     ensures length { HasLength result limit (vec_len into.new) }
-    ensures files { F.contents files.new ≡ F.contents files.old }
 
-    ensures read_cause { CountsFault (F.read_faults files.old) (F.read_faults files.new) result }
-    ensures missed { CountsMissing (F.misses files.old) (F.misses files.new) result }
-    ensures write_faults { F.write_faults files.new ≡ F.write_faults files.old }
+    ensures reads { OnlyReads (F.state files.old) (F.state files.new) }
+    ensures fault { CountsFailed name.now (F.state files.old) (F.state files.new) result }
+    ensures missing { CountsMissing (F.state files.old) (F.state files.new) result }
 {
     into.clear();
     match files.find(name)? {
@@ -71,20 +72,20 @@ pub fn read_text<F: Shelf>(
 
 /// Reads the chosen file from its first byte on.
 fn read_on<F: Shelf>(files: &mut F, limit: u64, into: &mut Vec<u8>) -> Result<Got, ReadFail>
-    requires reading { IsReading (F.mode files.old) }
-    requires at_front { chosen_place (F.mode files.old) ≡ 0 }
+    requires reading { IsReading (F.state files.old).mode }
+    requires at_front { chosen_place (F.state files.old).mode ≡ 0 }
     requires there { IfTold
-        (F.contents files.old) (λ told. IsPresent told (chosen_name (F.mode files.old))) }
+        (F.state files.old).contents (λ told. IsPresent told (chosen_name (F.state files.old).mode)) }
     requires empty { into.old.items ≡ [] }
 
-    ensures text { IfTold
-        (F.contents files.old) (IsRead result (chosen_name (F.mode files.old)) limit into.new.items) }
+    ensures text { IfTold (F.state files.old).contents
+        (IsRead result (chosen_name (F.state files.old).mode) limit into.new.items) }
     ensures length { HasLength result limit (vec_len into.new) }
-    ensures files { F.contents files.new ≡ F.contents files.old }
 
-    ensures read_cause { CountsFault (F.read_faults files.old) (F.read_faults files.new) result }
-    ensures missed { CountsMissing (F.misses files.old) (F.misses files.new) result }
-    ensures write_faults { F.write_faults files.new ≡ F.write_faults files.old }
+    ensures reads { OnlyReads (F.state files.old) (F.state files.new) }
+    ensures fault { CountsFailed
+        (chosen_name (F.state files.old).mode) (F.state files.old) (F.state files.new) result }
+    ensures missing { CountsMissing (F.state files.old) (F.state files.new) result }
 {
     let mut block = [0u8; BLOCK];
     loop {

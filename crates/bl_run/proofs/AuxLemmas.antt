@@ -21,7 +21,8 @@ use Rattle.std.proofs.Math.Seq.{drop-append_seam}
 use Rattle.bl_text.specs.Lines.{lines_of, IsLine, IsCut}
 use Rattle.bl_raw.specs.declared.raw.RawAux.{RawAux}
 use Rattle.bl_raw.specs.Raw.{IsSense, AreDistinct, FitsModel}
-use Rattle.bl_run.specs.AuxText.{number_line, aux_line, aux_lines, IsFound, IsMissing, IsNumber, AreNumbers, ArePlaces, AreCosts, AreCounts, place_lines, count_lines, aux_text}
+use Rattle.bl_run.specs.AuxText.{number_line, aux_line, aux_lines, place_lines, count_lines, aux_text}
+use Rattle.bl_run.specs.AuxParts.{IsFound, IsMissing, IsNumber, AreNumbers, ArePlaces, AreCosts, AreCounts}
 
 digits_are_line : (ds : List ℕ) → AllDigits 10 ds → IsLine ds
 digits_are_line [] h = tt

@@ -1,5 +1,5 @@
 pub mod AuxLemmas
-pub mod CauseLemmas
-pub mod EndingLemmas
-pub mod RunLemmas
+pub mod PromiseLemmas
 pub mod SolveLemmas
+pub mod StatusLemmas
+pub mod StepLemmas

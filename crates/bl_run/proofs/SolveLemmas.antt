@@ -1,11 +1,11 @@
 -- Sizes of a model's box and of a point's value.
-use Rattle.std.proofs.Common.{◌≡◌, ℕ, zero, suc, ◌+◌, ◌*◌, ◌<◌, ◌≤◌, ◌^◌, length, inl, inr, ⊎_elim, arith, refl, sym, ◌∙◌, ap, subst}
+use Rattle.std.proofs.Common.{◌≡◌, ℕ, zero, suc, ◌<◌, ◌≤◌, length, ⊎_elim, arith}
 use Rattle.std.specs.Prelude.{ℤ, List, pos, negsuc, ◌*ℤ◌, ◌+ℤ◌, ◌-ℤ◌, ◌≤ℤ◌, FitsSigned, unsigned_abs}
 use Rattle.std.specs.Int.{w64}
-use Rattle.std.proofs.lemmas.Int.{ints, unsigned_abs-mul}
+use Rattle.std.proofs.lemmas.Int.{ints}
 use Rattle.std.proofs.lemmas.Bool.{cases_lt}
 use Rattle.std.proofs.lemmas.Nat.{mul-le}
-use Rattle.bl_whole.specs.Sums.{entry, dot}
+use Rattle.bl_whole.specs.Sums.{component}
 use Rattle.bl_whole.specs.Within.{IsWithin, AreWithin}
 use Rattle.bl_whole.proofs.WithinLemmas.{within_dot, within_product, within_more, fits_from_within}
 use Rattle.bl_terms.specs.Programs.{Program, InBox, columns, root, follower_at}
@@ -33,7 +33,7 @@ product_below-grows n (suc m) f one le =
 width-positive : (p : Program) (k : ℕ) → IsModel p → k < columns p → 1 ≤ width_at (root p) k
 width-positive p k m below =
     let order = m.sound.box.ordered k below in
-    at (entry p.lo k) (entry p.hi k) order
+    at (component p.lo k) (component p.hi k) order
   where
     at : (lo hi : ℤ) → lo ≤ℤ hi → 1 ≤ unsigned_abs (hi -ℤ lo +ℤ pos 1)
     at lo hi h = positive (hi -ℤ lo +ℤ pos 1) (omega (arith, ints, h))

@@ -1,7 +1,19 @@
--- What the program prints.
-use Rattle.std.specs.Prelude.{ℕ, List, [], ◌∷◌, ◌++◌, ℤ, codes}
+-- Trusted: an answer to a program, and the report of it.
+use Rattle.std.specs.Prelude.{ℕ, List, [], ◌∷◌, ◌++◌, ℤ, ◌*ℤ◌, codes}
 use Rattle.std.specs.Fmt.{signed_decimal}
 use Rattle.bl_raw.specs.declared.raw.RawColumn.{RawColumn}
+use Rattle.bl_terms.specs.Programs.{Program, follower_at}
+use Rattle.bl_terms.specs.Feasible.{Optimal, Infeasible}
+
+-- a statement of a program: a point is optimal with a value, or there is no bilevel feasible point
+pub data Statement : Type 0 where
+  Best : List ℤ → ℤ → Statement
+  None : Statement
+
+-- the statement holds of the program
+abbrev pub Holds : Program → Statement → Type 0
+Holds p (Best z v) = Optimal p z v
+Holds p None = Infeasible p
 
 -- `column NAME VALUE`
 abbrev pub column_line : RawColumn → ℤ → List ℕ
@@ -18,6 +30,7 @@ unfoldable pub optimal_text : List RawColumn → List ℤ → ℤ → ℤ → Li
 optimal_text columns point value follower =
     codes "optimal\nvalue " ++ signed_decimal value ++ codes "\nfollower " ++ signed_decimal follower ++ codes "\n" ++ column_lines columns point
 
--- the report where no point is bilevel feasible
-abbrev pub infeasible_text : List ℕ
-infeasible_text = codes "infeasible\n"
+-- the report of a statement of a program with these columns; the follower's value is in the sense of the auxiliary text
+abbrev pub report_of : List RawColumn → Program → Statement → List ℕ
+report_of columns p (Best z v) = optimal_text columns z v (follower_at p z *ℤ p.sense)
+report_of columns p None = codes "infeasible\n"

@@ -6,10 +6,11 @@
 
 ghost use Rattle.std.specs.Prelude.{◌≡◌, ◌≢◌, ◌↔◌, ◌<◌, ◌≤◌, ℕ, ℤ, List, length, map, pos, All, IfOk, IfSome, IfNone, IsTrue, MatchOption, codes};
 ghost use Rattle.bl_raw.specs.Raw.{FitsModel, IsSense, AreDistinct};
-ghost use Rattle.bl_run.specs.AuxText.{number_line, aux_line, aux_lines, place_lines, count_lines, aux_text, IsFound, IsMissing, IsNumber, AreNumbers, ArePlaces, AreCosts, AreCounts};
+ghost use Rattle.bl_run.specs.AuxText.{number_line, aux_line, aux_lines, place_lines, count_lines, aux_text};
+ghost use Rattle.bl_run.specs.AuxParts.{IsFound, IsMissing, IsNumber, AreNumbers, ArePlaces, AreCosts, AreCounts};
 
-use bl_raw::Listed;
 use bl_model::RawAux;
+use bl_raw::Listed;
 use bl_text::{plain_number, split_line};
 use std::alloc::{AllocError, Global};
 

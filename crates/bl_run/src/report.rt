@@ -2,7 +2,7 @@
 
 ghost use Rattle.std.specs.Prelude.{◌≡◌, ◌++◌, length, IfOk, OnOk};
 ghost use Rattle.std.specs.Fmt.{signed_decimal};
-ghost use Rattle.bl_run.specs.Report.{optimal_text, column_line, column_lines, infeasible_text};
+ghost use Rattle.bl_run.specs.Report.{optimal_text, column_line, column_lines};
 
 use bl_model::RawColumn;
 use itoa::Buffer;

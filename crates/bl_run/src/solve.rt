@@ -1,6 +1,7 @@
 //! The command `solve`.
 
-ghost use Rattle.std.specs.Prelude.{◌≡◌, ◌↔◌, ◌<◌, ◌≤◌, ◌+ℤ◌, ◌-ℤ◌, ◌*ℤ◌, ◌≤ℤ◌, pos, length, unsigned_abs, vec_len, IfOk, IfErr, MatchResult, IsTrue};
+ghost use Rattle.std.specs.Prelude.{◌≡◌, ◌↔◌, ◌<◌, ◌≤◌, ◌+ℤ◌, ◌-ℤ◌, ◌*ℤ◌, ◌≤ℤ◌, pos, length, unsigned_abs, vec_len, IfOk, IfErr, IsTrue};
+ghost use Rattle.bl_limits.specs.declared.TheConstants.{MAX_NUMBER, MAX_TEXT_BYTES, MAX_WALK_POINTS};
 ghost use Rattle.bl_whole.specs.Within.{IsWithin};
 ghost use Rattle.bl_outer.specs.Files.{Holds, IfTold};
 ghost use Rattle.bl_terms.specs.Programs.{root, InBox, follower_at, columns as column_count};
@@ -8,26 +9,22 @@ ghost use Rattle.bl_plain.specs.Walk.{IsAnswer};
 ghost use Rattle.bl_terms.specs.Trees.{point_count};
 ghost use Rattle.bl_raw.specs.Raw.{IsRawModel, FitsModel};
 ghost use Rattle.bl_model.specs.Build.{program_of};
-ghost use Rattle.bl_run.specs.Endings.{CountsReadFault, CountsMissing, CountsWriteFault, IsOfReading};
-ghost use Rattle.bl_run.specs.Solve.{MpsReads, AuxReads, FileFails, MpsFails, AuxFails, ModelFails, SolveFails, LeavesOut, IsWalkable, Says, Prints};
+ghost use Rattle.bl_run.specs.Texts.{IsMpsText, IsAuxText};
+ghost use Rattle.bl_run.specs.Steps.{result_ending, OnlyCounts, HasText, FailsToRead, IsTooLong, IsBadMps, IsBadAux, IsReport, FailsToSolve, Ends};
 
 use crate::aux_text::read_aux_first;
 use crate::report::{INFEASIBLE, optimal_report};
 use crate::status::{Answer, Failure};
 use crate::words::SolveWords;
-use bl_model::{Bilevel, RawAux, RawColumn, RawMps, build};
+use bl_limits::{MAX_TEXT_BYTES, MAX_WALK_POINTS};
+use bl_model::{Bilevel, build};
 use bl_mps::read_first;
 use bl_outer::{Got, ReadFail, Shelf, Sink, read_text};
 use bl_plain::{Optimum, plain_best};
+use bl_raw::{RawAux, RawColumn, RawMps};
 use std::alloc::{AllocError, Global};
 
-/// The most bytes of a text that is read.
-const TEXT_LIMIT: u64 = 16_777_216;
-
-/// The most points of a box that is walked.
-const POINT_LIMIT: u64 = 1_000_000;
-
-// An answer and its text.
+/// An answer and its text.
 #[derive(Drop)]
 struct Report {
     answer: Answer,
@@ -41,20 +38,10 @@ pub(crate) fn solve<'a, F: Shelf, O: Sink>(
     files: &mut F,
     out: &mut O,
 ) -> Result<Answer, Failure<'a>>
-    ensures printed { IfOk result (λ answer. Prints answer (F.contents files.old) words.entry.mps.now words.entry.aux.now
-        (O.bytes out.old) (O.bytes out.new)) }
-    ensures failed { IfErr result (SolveFails (F.contents files.old) words.entry.mps.now words.entry.aux.now
-        (O.bytes out.old) (O.bytes out.new)) }
-    ensures out { IfErr result (LeavesOut (O.bytes out.old) (O.bytes out.new)) }
-
-    ensures files { F.contents files.new ≡ F.contents files.old }
-    ensures read_faults { MatchResult result (λ _. F.read_faults files.new ≡ F.read_faults files.old)
-        (CountsReadFault (F.read_faults files.old) (F.read_faults files.new)) }
-    ensures misses { MatchResult result (λ _. F.misses files.new ≡ F.misses files.old)
-        (CountsMissing (F.misses files.old) (F.misses files.new)) }
-    ensures write_faults { F.write_faults files.new ≡ F.write_faults files.old }
-    ensures out_faults { MatchResult result (λ _. O.faults out.new ≡ O.faults out.old)
-        (CountsWriteFault (O.faults out.old) (O.faults out.new)) }
+    ensures { Ends (record { mps = words.entry.mps.now; aux = words.entry.aux.now })
+        (record { files = F.state files.old; out = O.state out.old })
+        (record { files = F.state files.new; out = O.state out.new })
+        (result_ending result) }
 {
     let mps = read_mps(alloc, files, words.mps)?;
     let aux = read_aux(alloc, files, words.aux, &mps)?;
@@ -63,23 +50,16 @@ pub(crate) fn solve<'a, F: Shelf, O: Sink>(
     Ok(report.answer)
 }
 
-// Reads the model, where the file has it.
+/// Reads the model, where the file has it.
 fn read_mps<'a, F: Shelf>(
     alloc: Global,
     files: &mut F,
     name: &'a str,
 ) -> Result<RawMps, Failure<'a>>
     ensures limits { IfOk result IsRawModel }
-    ensures read { IfOk result (λ mps. IfTold (F.contents files.old) (MpsReads name.now mps)) }
-    ensures failed { IfErr result (λ failure. IfTold (F.contents files.old) (MpsFails name.now failure)) }
-    ensures named { IfErr result (IsOfReading name.now) }
-
-    ensures files { F.contents files.new ≡ F.contents files.old }
-    ensures read_faults { MatchResult result (λ _. F.read_faults files.new ≡ F.read_faults files.old)
-        (CountsReadFault (F.read_faults files.old) (F.read_faults files.new)) }
-    ensures misses { MatchResult result (λ _. F.misses files.new ≡ F.misses files.old)
-        (CountsMissing (F.misses files.old) (F.misses files.new)) }
-    ensures write_faults { F.write_faults files.new ≡ F.write_faults files.old }
+    ensures read { IfOk result (λ mps. HasText (F.state files.old).contents name.now (λ text. IsMpsText text mps)) }
+    ensures failed { IfErr result (FailsToRead (F.state files.old).contents name.now IsBadMps) }
+    ensures counts { OnlyCounts (F.state files.old) (F.state files.new) result }
 {
     let text = read_file(alloc, files, name)?;
     match read_first(alloc, &text)? {
@@ -88,7 +68,7 @@ fn read_mps<'a, F: Shelf>(
     }
 }
 
-// Reads the follower of the model, where the file has one.
+/// Reads the follower of the model, where the file has one.
 fn read_aux<'a, F: Shelf>(
     alloc: Global,
     files: &mut F,
@@ -97,16 +77,9 @@ fn read_aux<'a, F: Shelf>(
 ) -> Result<RawAux, Failure<'a>>
     requires { IsRawModel mps.now }
     ensures fits { IfOk result (FitsModel (length mps.now.columns) (length mps.now.rows)) }
-    ensures read { IfOk result (λ aux. IfTold (F.contents files.old) (AuxReads name.now mps.now aux)) }
-    ensures failed { IfErr result (λ failure. IfTold (F.contents files.old) (AuxFails name.now mps.now failure)) }
-    ensures named { IfErr result (IsOfReading name.now) }
-
-    ensures files { F.contents files.new ≡ F.contents files.old }
-    ensures read_faults { MatchResult result (λ _. F.read_faults files.new ≡ F.read_faults files.old)
-        (CountsReadFault (F.read_faults files.old) (F.read_faults files.new)) }
-    ensures misses { MatchResult result (λ _. F.misses files.new ≡ F.misses files.old)
-        (CountsMissing (F.misses files.old) (F.misses files.new)) }
-    ensures write_faults { F.write_faults files.new ≡ F.write_faults files.old }
+    ensures read { IfOk result (λ aux. HasText (F.state files.old).contents name.now (λ text. IsAuxText mps.now text aux)) }
+    ensures failed { IfErr result (FailsToRead (F.state files.old).contents name.now (IsBadAux mps.now)) }
+    ensures counts { OnlyCounts (F.state files.old) (F.state files.new) result }
 {
     let text = read_file(alloc, files, name)?;
     let column_count = mps.columns.as_slice().len();
@@ -117,26 +90,19 @@ fn read_aux<'a, F: Shelf>(
     }
 }
 
-// Reads the whole file, where it isn't too long.
+/// Reads the whole file, where it isn't too long.
 fn read_file<'a, F: Shelf>(
     alloc: Global,
     files: &mut F,
     name: &'a str,
 ) -> Result<Vec<u8>, Failure<'a>>
-    ensures read { IfOk result (λ text. IfTold (F.contents files.old) (λ told. Holds told name.now text.items)) }
-    ensures short { IfOk result (λ text. vec_len text ≤ 16777216) }
-    ensures failed { IfErr result (λ failure. IfTold (F.contents files.old) (FileFails name.now failure)) }
-    ensures named { IfErr result (IsOfReading name.now) }
-
-    ensures files { F.contents files.new ≡ F.contents files.old }
-    ensures read_faults { MatchResult result (λ _. F.read_faults files.new ≡ F.read_faults files.old)
-        (CountsReadFault (F.read_faults files.old) (F.read_faults files.new)) }
-    ensures misses { MatchResult result (λ _. F.misses files.new ≡ F.misses files.old)
-        (CountsMissing (F.misses files.old) (F.misses files.new)) }
-    ensures write_faults { F.write_faults files.new ≡ F.write_faults files.old }
+    ensures read { IfOk result (λ text. IfTold (F.state files.old).contents (λ told. Holds told name.now text.items)) }
+    ensures short { IfOk result (λ text. vec_len text ≤ MAX_TEXT_BYTES) }
+    ensures failed { IfErr result (FailsToRead (F.state files.old).contents name.now IsTooLong) }
+    ensures counts { OnlyCounts (F.state files.old) (F.state files.new) result }
 {
     let mut text = Vec::new(alloc);
-    match read_text(files, name, TEXT_LIMIT, &mut text) {
+    match read_text(files, name, MAX_TEXT_BYTES as u64, &mut text) {
         Ok(Got::Whole) => Ok(text),
         Ok(Got::Longer) => Err(Failure::NotYet(name)),
         Ok(Got::Missing) => Err(Failure::Missing(name)),
@@ -145,7 +111,7 @@ fn read_file<'a, F: Shelf>(
     }
 }
 
-// Builds the program, walks it, and writes the report.
+/// Builds the program, walks it, and writes the report.
 fn solve_model<'a>(
     alloc: Global,
     name: &'a str,
@@ -154,9 +120,10 @@ fn solve_model<'a>(
 ) -> Result<Report, Failure<'a>>
     requires mps { IsRawModel mps.now }
     requires aux { FitsModel (length mps.now.columns) (length mps.now.rows) aux.now }
-    ensures walkable { IfOk result (λ _. IsWalkable mps.now aux.now) }
-    ensures report { IfOk result (λ report. Says mps.now.columns (program_of mps.now aux.now) report.answer report.text.items) }
-    ensures failed { IfErr result (ModelFails name.now mps.now aux.now) }
+    ensures few { IfOk result (λ _. point_count (root (program_of mps.now aux.now)) ≤ MAX_WALK_POINTS) }
+    ensures report { IfOk result (λ report.
+        IsReport mps.now.columns (program_of mps.now aux.now) report.answer report.text.items) }
+    ensures failed { IfErr result (FailsToSolve name.now mps.now aux.now) }
 {
     let model = build(alloc, mps, aux)?;
     if !is_walkable(&model) {
@@ -166,10 +133,10 @@ fn solve_model<'a>(
     Ok(report_of(alloc, mps.columns.as_slice(), &model, &found)?)
 }
 
-// How many numbers a column's range has.
+/// How many numbers a column's range has.
 fn width(lo: i64, hi: i64) -> u64
-    requires lo { IsWithin 10000000 lo }
-    requires hi { IsWithin 10000000 hi }
+    requires lo { IsWithin MAX_NUMBER lo }
+    requires hi { IsWithin MAX_NUMBER hi }
     requires ordered { lo ≤ℤ hi }
     ensures width { result ≡ unsigned_abs (hi -ℤ lo +ℤ pos 1) }
     ensures range { (0 < result) × (result ≤ 20000001) }
@@ -177,22 +144,22 @@ fn width(lo: i64, hi: i64) -> u64
     (hi - lo + 1) as u64
 }
 
-// Whether the box has few enough points to be walked.
+/// Whether the box has few enough points to be walked.
 fn is_walkable(model: &Bilevel) -> bool
-    ensures { IsTrue result ↔ (point_count (root model.now) ≤ 1000000) }
+    ensures { IsTrue result ↔ (point_count (root model.now) ≤ MAX_WALK_POINTS) }
 {
     let (lo, hi) = (model.lo(), model.hi());
     let mut count = 1;
     for column in 0..lo.len() {
         count *= width(lo[column], hi[column]);
-        if count > POINT_LIMIT {
+        if count > MAX_WALK_POINTS {
             return false;
         }
     }
     true
 }
 
-// The follower's value of a point of the box, in the sense of the auxiliary text.
+/// The follower's value of a point of the box, in the sense of the auxiliary text.
 fn follower_value(model: &Bilevel, point: &[i64]) -> i64
     requires { InBox model.now point.now }
     ensures { result ≡ follower_at model.now point.now *ℤ model.now.sense }
@@ -200,7 +167,7 @@ fn follower_value(model: &Bilevel, point: &[i64]) -> i64
     model.follower_of(point) * model.sense()
 }
 
-// The report of what was found.
+/// The report of what was found.
 fn report_of(
     alloc: Global,
     columns: &[RawColumn],
@@ -209,7 +176,7 @@ fn report_of(
 ) -> Result<Report, AllocError>
     requires columns { length columns.now ≡ column_count model.now }
     requires answer { IsAnswer model.now found.now }
-    ensures { IfOk result (λ report. Says columns.now model.now report.answer report.text.items) }
+    ensures { IfOk result (λ report. IsReport columns.now model.now report.answer report.text.items) }
 {
     let Some(best) = found else {
         return Ok(Report {
@@ -217,9 +184,12 @@ fn report_of(
             text: Vec::from_slice(alloc, INFEASIBLE)?,
         });
     };
-    let follower = follower_value(model, &best.point);
+    let point = best.point.as_slice();
+    let value = model.value_of(point);
+    let follower = follower_value(model, point);
+    let text = optimal_report(alloc, columns, point, value, follower)?;
     Ok(Report {
         answer: Answer::Optimal,
-        text: optimal_report(alloc, columns, &best.point, best.value, follower)?,
+        text,
     })
 }

@@ -1,6 +1,7 @@
 //! How the program ends.
 
-ghost use Rattle.std.specs.Prelude.{◌≡◌, ◌++◌, OnOk, OnErr};
+ghost use Rattle.std.specs.Prelude.{◌≡◌, map, OnOk, OnErr};
+ghost use Rattle.std.specs.List.{flat_map};
 ghost use Rattle.bl_outer.specs.Count.{HasCause};
 ghost use Rattle.bl_outer.specs.Files.{Told};
 ghost use Rattle.bl_outer.specs.Sink.{Adds, AddsPrefix};
@@ -8,18 +9,7 @@ ghost use Rattle.bl_outer.specs.Sink.{Adds, AddsPrefix};
 use bl_outer::{Sink, SinkFail};
 use std::alloc::AllocError;
 
-/// The exit status.
-///
-/// | Status | Meaning |
-/// |---|---|
-/// | 0 | an optimal point was found |
-/// | 1 | no point is bilevel feasible |
-/// | 2 | the words aren't understood |
-/// | 3 | a text isn't in the form that is read, or the box has too many points |
-/// | 6 | a fault in reading a file |
-/// | 7 | a fault in writing |
-/// | 8 | want of memory |
-/// | 10 | a file is missing |
+/// The exit status. `run` says which comes when.
 #[derive(Clone, Copy, Debug, PartialEq, Eq)]
 pub struct Status(pub u8);
 
@@ -32,10 +22,11 @@ pub(crate) enum Answer {
 
 impl Answer {
     ghost use Rattle.std.specs.Prelude.{◌≡◌};
-    ghost use Rattle.bl_run.specs.Endings.{answer_status};
+    ghost use Rattle.bl_run.specs.Endings.{status_of};
+    ghost use Rattle.bl_run.specs.Steps.{answer_ending};
 
     pub(crate) fn status(self) -> Status
-        ensures { result.0 ≡ answer_status self }
+        ensures { result.0 ≡ status_of (answer_ending self) }
     {
         Status(match self {
             Answer::Optimal => 0,
@@ -44,7 +35,7 @@ impl Answer {
     }
 }
 
-/// Why a command has no answer. A text that has one names its file.
+/// Why a command has no answer. A file is named where one has to do with it.
 #[derive(Clone, Copy, Debug)]
 pub(crate) enum Failure<'a> {
     Words,
@@ -78,14 +69,13 @@ impl From<SinkFail> for Failure<'_> {
 }
 
 impl Failure<'_> {
-    ghost use Rattle.std.specs.Prelude.{◌≡◌, OnOk, OnErr};
-    ghost use Rattle.bl_outer.specs.Count.{HasCause};
-    ghost use Rattle.bl_outer.specs.Files.{Told};
-    ghost use Rattle.bl_outer.specs.Sink.{Adds, AddsPrefix};
-    ghost use Rattle.bl_run.specs.Endings.{failure_status, failure_line};
+    ghost use Rattle.std.specs.Prelude.{◌≡◌};
+    ghost use Rattle.bl_run.specs.Endings.{status_of, line_of};
+    ghost use Rattle.bl_run.specs.Promise.{Tells};
+    ghost use Rattle.bl_run.specs.Steps.{failure_ending};
 
     pub(crate) fn status(self) -> Status
-        ensures { result.0 ≡ failure_status self.entry }
+        ensures { result.0 ≡ status_of (failure_ending self.entry) }
     {
         Status(match self {
             Failure::Words => 2,
@@ -98,28 +88,33 @@ impl Failure<'_> {
     }
 
     /// Prints the line on the failure. It stops at the first piece that isn't taken.
-    pub(crate) fn tell<E: Sink>(self, err: &mut E) -> Result<(), SinkFail>
-        ensures ok { OnOk result (Told (Adds (failure_line self.entry)) (E.bytes err.old) (E.bytes err.new)) }
-        ensures err { OnErr result (Told (AddsPrefix (failure_line self.entry)) (E.bytes err.old) (E.bytes err.new)) }
-        ensures cause { HasCause (E.faults err.old) (E.faults err.new) result }
+    pub(crate) fn tell<E: Sink>(self, err: &mut E)
+        ensures { Tells (line_of (failure_ending self.entry)) (E.state err.old) (E.state err.new) }
     {
-        match self {
-            Failure::Words => err.put(b"mibs: words not understood\n"),
-            Failure::NotYet(file) => tell_of(err, b"mibs: ", file, b": NotYet\n"),
-            Failure::ReadFault(file) => tell_of(err, b"mibs: read fault: ", file, b"\n"),
-            Failure::WriteFault => err.put(b"mibs: write fault\n"),
-            Failure::Memory => err.put(b"mibs: want of memory\n"),
-            Failure::Missing(file) => tell_of(err, b"mibs: ", file, b": missing\n"),
-        }
+        let _ = match self {
+            Failure::Words => put_all(err, &[b"mibs: words not understood\n"]),
+            Failure::NotYet(file) => put_all(err, &[b"mibs: ", file.as_bytes(), b": NotYet\n"]),
+            Failure::ReadFault(file) => put_all(
+                err,
+                &[b"mibs: read fault: ", file.as_bytes(), b"\n"],
+            ),
+            Failure::WriteFault => put_all(err, &[b"mibs: write fault\n"]),
+            Failure::Memory => put_all(err, &[b"mibs: want of memory\n"]),
+            Failure::Missing(file) => put_all(err, &[b"mibs: ", file.as_bytes(), b": missing\n"]),
+        };
     }
 }
 
-fn tell_of<E: Sink>(err: &mut E, before: &[u8], file: &str, after: &[u8]) -> Result<(), SinkFail>
-    ensures ok { OnOk result (Told (Adds (before.now ++ (file.now ++ after.now))) (E.bytes err.old) (E.bytes err.new)) }
-    ensures err { OnErr result (Told (AddsPrefix (before.now ++ (file.now ++ after.now))) (E.bytes err.old) (E.bytes err.new)) }
-    ensures cause { HasCause (E.faults err.old) (E.faults err.new) result }
+/// Puts the pieces in order, up to the first that isn't taken.
+fn put_all<E: Sink>(err: &mut E, pieces: &[&[u8]]) -> Result<(), SinkFail>
+    ensures ok { OnOk result (Told (Adds (flat_map (λ piece. piece.now) pieces.now))
+        (E.state err.old).bytes (E.state err.new).bytes) }
+    ensures err { OnErr result (Told (AddsPrefix (flat_map (λ piece. piece.now) pieces.now))
+        (E.state err.old).bytes (E.state err.new).bytes) }
+    ensures fault { HasCause (E.state err.old).faults (E.state err.new).faults result }
 {
-    err.put(before)?;
-    err.put(file.as_bytes())?;
-    err.put(after)
+    for piece in pieces {
+        err.put(piece)?;
+    }
+    Ok(())
 }

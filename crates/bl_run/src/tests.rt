@@ -1,154 +1,83 @@
 //! Whole runs over files and outputs in memory. Each answer was worked out by hand.
 
+mod texts;
+
 use crate::{Status, run, run_alone};
 use bl_outer::{MemShelf, MemSink, NoGate};
 use std::alloc::{AllocError, Global};
 use std::sync::Wait;
 use std::test::Fail;
 use std::thread::Threads;
+use texts::{
+    ALONE, CHOICE, INTERDICTION, INTERDICTION_AUX, LARGE, MOORE_BARD, MOORE_BARD_AUX, RAMP, TIES,
+    TIES_AUX, TOLL, TOLL_AUX, UNWILLING,
+};
 
-const MOORE_BARD: &str = "\
-NAME          MOOREBARD
-ROWS
- N  COST
- L  C1
- L  C2
- L  C3
- G  C4
-COLUMNS
-    MARKER1   'MARKER'  'INTORG'
-    X         COST      -1   C1   -25
-    X         C2         1   C3     2
-    X         C4         2
-    Y         COST     -10   C1    20
-    Y         C2         2   C3    -1
-    Y         C4        10
-    MARKER2   'MARKER'  'INTEND'
-RHS
-    RHS       C1        30   C2    10
-    RHS       C3        15   C4    15
-BOUNDS
- UP BND       X         10
- UP BND       Y         10
-ENDATA
-";
+/// What a run prints: this, or this and something behind it where several points are optimal.
+enum Report {
+    Is(&'static str),
+    Begins(&'static str),
+}
 
-const MOORE_BARD_AUX: &str = "N 1\nM 4\nLC 1\nLR 0\nLR 1\nLR 2\nLR 3\nLO 1\nOS 1\n";
+impl Report {
+    fn fits(&self, printed: &[u8]) -> bool {
+        match self {
+            Report::Is(text) => printed == text.as_bytes(),
+            Report::Begins(text) => printed.starts_with(text.as_bytes()),
+        }
+    }
+}
 
-const MOORE_BARD_REPORT: &str = "optimal\nvalue -22\nfollower 2\ncolumn X 2\ncolumn Y 2\n";
-
-// X 0..3, Y 0..5, the follower's row Y - X <= 0, cost Y - 2X.
-const RAMP: &str = "\
-NAME
-ROWS
- N COST
- L R
-COLUMNS
- M 'MARKER' 'INTORG'
- X COST -2 R -1
- Y COST 1 R 1
- M 'MARKER' 'INTEND'
-RHS
-BOUNDS
- UP BND X 3
- UP BND Y 5
-ENDATA
-";
-
-// X, Y1, Y2 0..1, the leader's row Y1 + Y2 <= 1, cost -Y1 - Y2.
-const CHOICE: &str = "\
-NAME
-ROWS
- N COST
- L R
-COLUMNS
- M 'MARKER' 'INTORG'
- X COST 0
- Y1 COST -1 R 1
- Y2 COST -1 R 1
- M 'MARKER' 'INTEND'
-RHS
- RHS R 1
-BOUNDS
- UP BND X 1
- UP BND Y1 1
- UP BND Y2 1
-ENDATA
-";
-
-// X, Y 0..1, the leader's row Y >= 1, cost X.
-const UNWILLING: &str = "\
-NAME
-ROWS
- N COST
- G R
-COLUMNS
- M 'MARKER' 'INTORG'
- X COST 1
- Y R 1
- M 'MARKER' 'INTEND'
-RHS
- RHS R 1
-BOUNDS
- UP BND X 1
- UP BND Y 1
-ENDATA
-";
-
-// A, B 0..3, A + 2B <= 4, cost -2A - 3B, and no follower.
-const ALONE: &str = "\
-NAME
-ROWS
- N COST
- L R
-COLUMNS
- M 'MARKER' 'INTORG'
- A COST -2 R 1
- B COST -3 R 2
- M 'MARKER' 'INTEND'
-RHS
- RHS R 4
-BOUNDS
- UP BND A 3
- UP BND B 3
-ENDATA
-";
-
-// A box of 101 · 101 · 101 points.
-const LARGE: &str = "\
-NAME
-ROWS
- N COST
-COLUMNS
- M 'MARKER' 'INTORG'
- A COST 1
- B COST 1
- C COST 1
- M 'MARKER' 'INTEND'
-RHS
-BOUNDS
- UP BND A 100
- UP BND B 100
- UP BND C 100
-ENDATA
-";
-
+/// The two texts of a model, and what a run over them answers.
 struct Case {
     name: &'static str,
     mps: &'static str,
     aux: &'static str,
     status: u8,
-    out: &'static str,
+    report: Report,
     err: &'static str,
 }
 
-const CASES: [Case; 8] = [
+const NO_FOLLOWER: &str = "N 0\nM 0\nOS 1\n";
+
+const CASES: [Case; 12] = [
     Case {
         name: "Moore and Bard",
         mps: MOORE_BARD,
         aux: MOORE_BARD_AUX,
         status: 0,
-        out: MOORE_BARD_REPORT,
+        report: Report::Is("optimal\nvalue -22\nfollower 2\ncolumn X 2\ncolumn Y 2\n"),
+        err: "",
+    },
+    Case {
+        name: "a toll",
+        mps: TOLL,
+        aux: TOLL_AUX,
+        status: 0,
+        report: Report::Is(
+            "optimal\nvalue -4\nfollower 6\ncolumn TOLL 4\ncolumn FAST 1\ncolumn SLOW 0\ncolumn REVENUE 4\n",
+        ),
+        err: "",
+    },
+    Case {
+        name: "an interdiction",
+        mps: INTERDICTION,
+        aux: INTERDICTION_AUX,
+        status: 0,
+        report: Report::Is(
+            "optimal\nvalue 4\nfollower 4\ncolumn STOP1 1\ncolumn STOP2 0\ncolumn STOP3 0\n\
+             column TAKE1 0\ncolumn TAKE2 1\ncolumn TAKE3 0\n",
+        ),
+        err: "",
+    },
+    Case {
+        name: "ties",
+        mps: TIES,
+        aux: TIES_AUX,
+        status: 0,
+        report: Report::Is(
+            "optimal\nvalue -7\nfollower 3\ncolumn ORDER 3\ncolumn NORTH 2\ncolumn SOUTH 1\n",
+        ),
         err: "",
     },
     Case {
@@ -156,7 +85,7 @@ const CASES: [Case; 8] = [
         mps: RAMP,
         aux: "N 1\nM 1\nLC 1\nLR 0\nLO 1\nOS -1\n",
         status: 0,
-        out: "optimal\nvalue -3\nfollower 3\ncolumn X 3\ncolumn Y 3\n",
+        report: Report::Is("optimal\nvalue -3\nfollower 3\ncolumn X 3\ncolumn Y 3\n"),
         err: "",
     },
     Case {
@@ -164,7 +93,15 @@ const CASES: [Case; 8] = [
         mps: RAMP,
         aux: "N 1\nM 1\nLC 1\nLR 0\nLO 1\nOS 1\n",
         status: 0,
-        out: "optimal\nvalue -6\nfollower 0\ncolumn X 3\ncolumn Y 0\n",
+        report: Report::Is("optimal\nvalue -6\nfollower 0\ncolumn X 3\ncolumn Y 0\n"),
+        err: "",
+    },
+    Case {
+        name: "a leader's row that rules out optima of the follower",
+        mps: CHOICE,
+        aux: "N 2\nM 0\nLC 1\nLC 2\nLO 0\nLO 0\nOS 1\n",
+        status: 0,
+        report: Report::Begins("optimal\nvalue -1\nfollower 0\ncolumn X "),
         err: "",
     },
     Case {
@@ -172,23 +109,24 @@ const CASES: [Case; 8] = [
         mps: UNWILLING,
         aux: "N 1\nM 0\nLC 1\nLO 1\nOS 1\n",
         status: 1,
-        out: "infeasible\n",
+        report: Report::Is("infeasible\n"),
         err: "",
     },
     Case {
         name: "no follower",
         mps: ALONE,
-        aux: "N 0\nM 0\nOS 1\n",
+        aux: NO_FOLLOWER,
         status: 0,
-        out: "optimal\nvalue -7\nfollower 0\ncolumn A 2\ncolumn B 1\n",
+        report: Report::Is("optimal\nvalue -7\nfollower 0\ncolumn A 2\ncolumn B 1\n"),
         err: "",
     },
     Case {
         name: "a bound line of another kind",
-        mps: "NAME\nROWS\n N COST\nCOLUMNS\n M 'MARKER' 'INTORG'\n X COST 1\n M 'MARKER' 'INTEND'\nRHS\nBOUNDS\n LO BND X 1\nENDATA\n",
-        aux: "N 0\nM 0\nOS 1\n",
+        mps: "NAME\nROWS\n N COST\nCOLUMNS\n M 'MARKER' 'INTORG'\n X COST 1\n M 'MARKER' 'INTEND'\nRHS\n\
+              BOUNDS\n LO BND X 1\nENDATA\n",
+        aux: NO_FOLLOWER,
         status: 3,
-        out: "",
+        report: Report::Is(""),
         err: "mibs: m.mps: NotYet\n",
     },
     Case {
@@ -196,15 +134,15 @@ const CASES: [Case; 8] = [
         mps: ALONE,
         aux: "M 0\nN 0\nOS 1\n",
         status: 3,
-        out: "",
+        report: Report::Is(""),
         err: "mibs: m.aux: NotYet\n",
     },
     Case {
         name: "more than a million points",
         mps: LARGE,
-        aux: "N 0\nM 0\nOS 1\n",
+        aux: NO_FOLLOWER,
         status: 3,
-        out: "",
+        report: Report::Is(""),
         err: "mibs: m.mps: NotYet\n",
     },
 ];
@@ -226,7 +164,7 @@ fn shelf(alloc: Global, mps: &str, aux: &str, fails: &[u64]) -> Result<MemShelf,
     Ok(shelf)
 }
 
-// A run whose promises the tests don't use: they look at what it gave.
+/// A run whose promises the tests don't use: they look at what it gave.
 fn status_alone(
     alloc: Global,
     words: &[String],
@@ -237,7 +175,7 @@ fn status_alone(
     run_alone(alloc, words, files, out, err)
 }
 
-// The same of the call that main makes.
+/// The same of the call that main makes.
 fn status_of_run<R: Threads + Wait + Sync>(
     rt: &R,
     alloc: Global,
@@ -256,33 +194,12 @@ fn solves_the_worked_examples(rt: HostRuntime) -> Result<(), Fail> {
         let mut files = shelf(rt.alloc(), case.mps, case.aux, &[])?;
         let mut out = MemSink::new(rt.alloc(), &[])?;
         let mut err = MemSink::new(rt.alloc(), &[])?;
-        let status = status_alone(rt.alloc(), &words, &mut files, &mut out, &mut err);
+        let status = status_of_run(&rt, rt.alloc(), &words, &mut files, &mut out, &mut err);
         let name = case.name;
         assert_eq!(rt; status, Status(case.status), "{name}");
-        assert_eq!(rt; out.bytes(), case.out.as_bytes(), "{name}");
+        assert!(rt; case.report.fits(out.bytes()), "{name}");
         assert_eq!(rt; err.bytes(), case.err.as_bytes(), "{name}");
     }
-    Ok(())
-}
-
-#[test]
-fn a_leaders_row_rules_out_follower_optima(rt: HostRuntime) -> Result<(), Fail> {
-    let aux = "N 2\nM 0\nLC 1\nLC 2\nLO 0\nLO 0\nOS 1\n";
-    let mut files = shelf(rt.alloc(), CHOICE, aux, &[])?;
-    let mut out = MemSink::new(rt.alloc(), &[])?;
-    let mut err = MemSink::new(rt.alloc(), &[])?;
-    let words = words(rt.alloc(), &SOLVE)?;
-    let status = run(
-        &rt,
-        rt.alloc(),
-        &words,
-        &mut files,
-        &mut out,
-        &mut err,
-        &NoGate,
-    );
-    assert_eq!(rt; status, Status(0));
-    assert!(rt; out.bytes().starts_with(b"optimal\nvalue -1\nfollower 0\n"));
     Ok(())
 }
 
@@ -311,8 +228,8 @@ fn refuses_other_words(rt: HostRuntime) -> Result<(), Fail> {
     Ok(())
 }
 
-// What goes wrong outside: the files that are there, the calls of the shelf and of `out` that fail,
-// and what the run answers.
+/// What goes wrong outside: the files that are there, the calls of the shelf and of `out` that fail,
+/// and what the run answers.
 struct Fault {
     files: &'static [&'static str],
     shelf_fails: &'static [u64],

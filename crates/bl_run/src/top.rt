@@ -1,11 +1,9 @@
 //! The top calls.
 
-ghost use Rattle.std.specs.Prelude.{◌≡◌, ◌≢◌, ◌↔◌, ℕ, List, [], ◌∷◌, ◌<◌, ◌≤◌, map, string_bytes, IfOk, IfErr, MatchResult};
-ghost use Rattle.bl_outer.specs.Files.{IfTold};
-ghost use Rattle.bl_run.specs.Endings.{CountsReadFault, CountsMissing, CountsWriteFault};
-ghost use Rattle.bl_run.specs.Solve.{Prints, LeavesOut};
-ghost use Rattle.bl_run.specs.Run.{NameFiles, AreRefused, IsOneOf, line_at, Tells, RisesAt, IsCause, GivesStatus, CommandFails};
-ghost use Rattle.bl_run.specs.declared.status.Answer.TheVariants as answer;
+ghost use Rattle.std.specs.Prelude.{◌≡◌, map, string_bytes};
+ghost use Rattle.bl_run.specs.Endings.{OutOfMemory, line_of};
+ghost use Rattle.bl_run.specs.Promise.{Promise, Tells};
+ghost use Rattle.bl_run.specs.Steps.{result_ending, EndsCommand};
 
 use crate::solve::solve;
 use crate::status::{Answer, Failure, Status};
@@ -42,29 +40,10 @@ pub fn run<R: Threads + Wait + Sync, F: Shelf, O: Sink, E: Sink, G: Gate + Sync>
     err: &mut E,
     _gate: &G,
 ) -> Status
-    ensures statuses { IsOneOf (0 ∷ 1 ∷ 2 ∷ 3 ∷ 6 ∷ 7 ∷ 8 ∷ 10 ∷ []) result.0 }
-    // what each status means
-    ensures optimal { result.0 ≡ 0 → NameFiles (map string_bytes words.now) (λ mps aux.
-        Prints answer.Optimal (F.contents files.old) mps aux (O.bytes out.old) (O.bytes out.new)) }
-    ensures infeasible { result.0 ≡ 1 → NameFiles (map string_bytes words.now) (λ mps aux.
-        Prints answer.Infeasible (F.contents files.old) mps aux (O.bytes out.old) (O.bytes out.new)) }
-    ensures refused { (result.0 ≡ 2) ↔ AreRefused (map string_bytes words.now) }
-    ensures failed { 2 ≤ result.0 → ((file : List ℕ)
-        × IsCause (map string_bytes words.now) (F.contents files.old) (O.bytes out.old) (O.bytes out.new) file result.0
-        × Tells (line_at result.0 file) (E.bytes err.old) (E.bytes err.new) (E.faults err.old) (E.faults err.new)) }
-    ensures exact { IfTold (F.contents files.old) (GivesStatus (map string_bytes words.now) result.0) }
-
-    // the causes that are counted
-    ensures read_faults { RisesAt 6 result.0 (F.read_faults files.old) (F.read_faults files.new) }
-    ensures out_faults { RisesAt 7 result.0 (O.faults out.old) (O.faults out.new) }
-    ensures misses { RisesAt 10 result.0 (F.misses files.old) (F.misses files.new) }
-
-    // what stays
-    ensures files { F.contents files.new ≡ F.contents files.old }
-    ensures write_faults { F.write_faults files.new ≡ F.write_faults files.old }
-    ensures out { result.0 ≢ 0 → result.0 ≢ 1 → result.0 ≢ 7 → O.bytes out.new ≡ O.bytes out.old }
-    ensures err { result.0 < 2 → E.bytes err.new ≡ E.bytes err.old }
-    ensures err_faults { result.0 < 2 → E.faults err.new ≡ E.faults err.old }
+    ensures { Promise (map string_bytes words.now)
+        (record { files = F.state files.old; out = O.state out.old })
+        (record { files = F.state files.new; out = O.state out.new })
+        (E.state err.old) (E.state err.new) result.0 }
 {
     run_alone(alloc, words, files, out, err)
 }
@@ -77,69 +56,43 @@ pub fn run_alone<F: Shelf, O: Sink, E: Sink>(
     out: &mut O,
     err: &mut E,
 ) -> Status
-    ensures statuses { IsOneOf (0 ∷ 1 ∷ 2 ∷ 3 ∷ 6 ∷ 7 ∷ 8 ∷ 10 ∷ []) result.0 }
-    // what each status means
-    ensures optimal { result.0 ≡ 0 → NameFiles (map string_bytes words.now) (λ mps aux.
-        Prints answer.Optimal (F.contents files.old) mps aux (O.bytes out.old) (O.bytes out.new)) }
-    ensures infeasible { result.0 ≡ 1 → NameFiles (map string_bytes words.now) (λ mps aux.
-        Prints answer.Infeasible (F.contents files.old) mps aux (O.bytes out.old) (O.bytes out.new)) }
-    ensures refused { (result.0 ≡ 2) ↔ AreRefused (map string_bytes words.now) }
-    ensures failed { 2 ≤ result.0 → ((file : List ℕ)
-        × IsCause (map string_bytes words.now) (F.contents files.old) (O.bytes out.old) (O.bytes out.new) file result.0
-        × Tells (line_at result.0 file) (E.bytes err.old) (E.bytes err.new) (E.faults err.old) (E.faults err.new)) }
-    ensures exact { IfTold (F.contents files.old) (GivesStatus (map string_bytes words.now) result.0) }
-
-    // the causes that are counted
-    ensures read_faults { RisesAt 6 result.0 (F.read_faults files.old) (F.read_faults files.new) }
-    ensures out_faults { RisesAt 7 result.0 (O.faults out.old) (O.faults out.new) }
-    ensures misses { RisesAt 10 result.0 (F.misses files.old) (F.misses files.new) }
-
-    // what stays
-    ensures files { F.contents files.new ≡ F.contents files.old }
-    ensures write_faults { F.write_faults files.new ≡ F.write_faults files.old }
-    ensures out { result.0 ≢ 0 → result.0 ≢ 1 → result.0 ≢ 7 → O.bytes out.new ≡ O.bytes out.old }
-    ensures err { result.0 < 2 → E.bytes err.new ≡ E.bytes err.old }
-    ensures err_faults { result.0 < 2 → E.faults err.new ≡ E.faults err.old }
+    ensures { Promise (map string_bytes words.now)
+        (record { files = F.state files.old; out = O.state out.old })
+        (record { files = F.state files.new; out = O.state out.new })
+        (E.state err.old) (E.state err.new) result.0 }
 {
     match command(alloc, words, files, out) {
         Ok(answer) => answer.status(),
         Err(failure) => {
-            let _ = failure.tell(err);
+            failure.tell(err);
             failure.status()
         }
     }
 }
 
+/// Does what the words ask for.
 fn command<'a, F: Shelf, O: Sink>(
     alloc: Global,
     words: &'a [String],
     files: &mut F,
     out: &mut O,
 ) -> Result<Answer, Failure<'a>>
-    ensures printed { IfOk result (λ answer. NameFiles (map string_bytes words.now) (λ mps aux.
-        Prints answer (F.contents files.old) mps aux (O.bytes out.old) (O.bytes out.new))) }
-    ensures failed { IfErr result (CommandFails (map string_bytes words.now) (F.contents files.old)
-        (O.bytes out.old) (O.bytes out.new)) }
-    ensures out { IfErr result (LeavesOut (O.bytes out.old) (O.bytes out.new)) }
-
-    ensures files { F.contents files.new ≡ F.contents files.old }
-    ensures read_faults { MatchResult result (λ _. F.read_faults files.new ≡ F.read_faults files.old)
-        (CountsReadFault (F.read_faults files.old) (F.read_faults files.new)) }
-    ensures misses { MatchResult result (λ _. F.misses files.new ≡ F.misses files.old)
-        (CountsMissing (F.misses files.old) (F.misses files.new)) }
-    ensures write_faults { F.write_faults files.new ≡ F.write_faults files.old }
-    ensures out_faults { MatchResult result (λ _. O.faults out.new ≡ O.faults out.old)
-        (CountsWriteFault (O.faults out.old) (O.faults out.new)) }
+    ensures { EndsCommand (map string_bytes words.now)
+        (record { files = F.state files.old; out = O.state out.old })
+        (record { files = F.state files.new; out = O.state out.new })
+        (result_ending result) }
 {
-    let words = solve_words(words).ok_or(Failure::Words)?;
-    solve(alloc, words, files, out)
+    match solve_words(words) {
+        Some(asked) => solve(alloc, asked, files, out),
+        None => Err(Failure::Words),
+    }
 }
 
 /// The answer where not even the words could be read for want of memory.
 pub fn want_memory<E: Sink>(err: &mut E) -> Status
     ensures status { result.0 ≡ 8 }
-    ensures told { Tells (line_at 8 []) (E.bytes err.old) (E.bytes err.new) (E.faults err.old) (E.faults err.new) }
+    ensures told { Tells (line_of OutOfMemory) (E.state err.old) (E.state err.new) }
 {
-    let _ = Failure::Memory.tell(err);
+    Failure::Memory.tell(err);
     Failure::Memory.status()
 }

@@ -1,7 +1,7 @@
 //! The words of the command line.
 
-ghost use Rattle.std.specs.Prelude.{◌≡◌, ◌↔◌, [], ◌∷◌, List, ℕ, map, IsTrue, IfSome, IfNone, string_bytes};
-ghost use Rattle.bl_run.specs.Words.{IsFileWord, AreSolveWords};
+ghost use Rattle.std.specs.Prelude.{◌≡◌, ◌↔◌, [], ◌∷◌, map, IsTrue, IfSome, IfNone, string_bytes};
+ghost use Rattle.bl_run.specs.Words.{IsFileWord, AreSolveWords, AreRefused};
 
 /// What `solve` is asked to do.
 #[derive(Clone, Copy)]
@@ -14,8 +14,9 @@ pub struct SolveWords<'a> {
 
 /// Reads the words after the program's name: `solve MPS AUX`, and nothing else.
 pub fn solve_words(words: &[String]) -> Option<SolveWords<'_>>
-    ensures found { IfSome result (λ w. AreSolveWords (map string_bytes words.now) w.mps.now w.aux.now) }
-    ensures refused { IfNone result ((mps aux : List ℕ) → AreSolveWords (map string_bytes words.now) mps aux → ⊥) }
+    ensures found { IfSome result (λ w. AreSolveWords
+        (map string_bytes words.now) (record { mps = w.mps.now; aux = w.aux.now })) }
+    ensures refused { IfNone result (AreRefused (map string_bytes words.now)) }
 {
     let [command, mps, aux] = words else {
         return None;
@@ -24,8 +25,9 @@ pub fn solve_words(words: &[String]) -> Option<SolveWords<'_>>
 }
 
 fn three_words<'a>(command: &str, mps: &'a str, aux: &'a str) -> Option<SolveWords<'a>>
-    ensures found { IfSome result (λ w. AreSolveWords (command.now ∷ mps.now ∷ aux.now ∷ []) w.mps.now w.aux.now) }
-    ensures refused { IfNone result ((m a : List ℕ) → AreSolveWords (command.now ∷ mps.now ∷ aux.now ∷ []) m a → ⊥) }
+    ensures found { IfSome result (λ w. AreSolveWords
+        (command.now ∷ mps.now ∷ aux.now ∷ []) (record { mps = w.mps.now; aux = w.aux.now })) }
+    ensures refused { IfNone result (AreRefused (command.now ∷ mps.now ∷ aux.now ∷ [])) }
 {
     if command == "solve" && is_file_word(mps) && is_file_word(aux) && mps != aux {
         Some(SolveWords { mps, aux })

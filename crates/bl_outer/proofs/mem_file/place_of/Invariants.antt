@@ -1,5 +1,5 @@
 use Rattle.std.proofs.Common.{◌≢◌, ℕ, ◌<◌}
-use Rattle.bl_outer.specs.Mem.{name_at}
+use Rattle.bl_outer.specs.MemFile.{name_at}
 use Rattle.bl_outer.proofs.mem_file.place_of.Given as goal
 
 abbrev pub invariant-loop-i : goal.invariant-loop-i

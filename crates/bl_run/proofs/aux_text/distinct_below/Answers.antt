@@ -1,6 +1,6 @@
 use Rattle.std.proofs.Common.{pos, get_or, arith, rules}
 use Rattle.std.proofs.Math.Facts.{to_z-of_z}
-use Rattle.bl_run.specs.AuxText.{IsNumber}
+use Rattle.bl_run.specs.AuxParts.{IsNumber}
 use Rattle.bl_run.proofs.AuxLemmas.{placing_start, placing_more, placing_refused, placing_taken, placing_done, read_mark}
 use Rattle.bl_run.proofs.aux_text.distinct_below.Goals as goal
 

@@ -1,7 +1,6 @@
-use Rattle.std.proofs.Common.{◌≡◌, ◌∙◌, rules, ap}
-use Rattle.std.specs.Prelude.{ℤ, ◌*ℤ◌, FitsSigned}
+use Rattle.std.proofs.Common.{rules}
+use Rattle.std.specs.Prelude.{◌*ℤ◌, FitsSigned}
 use Rattle.std.specs.Int.{w64}
-use mir.Val.{to_z, of_z}
 use Rattle.std.proofs.lemmas.Int.{to_z-of_z}
 use Rattle.bl_terms.specs.Programs.{follower_at}
 use Rattle.bl_run.proofs.SolveLemmas.{follower_fits}

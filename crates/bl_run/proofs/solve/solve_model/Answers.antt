@@ -1,4 +1,4 @@
-use Rattle.std.proofs.Common.{◌≡◌, ◌∙◌, ap, sym, length, List}
+use Rattle.std.proofs.Common.{◌∙◌, ap, sym, length, List}
 use Rattle.bl_terms.specs.Programs.{columns}
 use Rattle.bl_raw.specs.declared.raw.RawColumn.{RawColumn}
 use Rattle.bl_run.proofs.SolveLemmas.{program-columns}

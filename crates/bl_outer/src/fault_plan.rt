@@ -1,34 +1,35 @@
-// Which calls of a shelf or a sink in memory are to fail.
+//! Which calls of a shelf or a sink in memory are to fail.
+
 ghost use Rattle.std.specs.Prelude.{◌≡◌, ◌++◌, false, IfOk};
 ghost use Rattle.std.specs.Bool.{OnTrue, OnFalse};
-ghost use Rattle.bl_outer.specs.Mem.{is_planned, after_call};
+ghost use Rattle.bl_outer.specs.FaultPlan.{is_to_fail, after_call, new_plan};
 ghost use Rattle.bl_outer.specs.Sink.{Adds, AddsPrefix};
 
-use crate::count::risen;
+use crate::count::saturating_increment;
 use std::alloc::{AllocError, Global};
 use std::marker::Model;
 
 /// Counts calls, and knows by their numbers which are to fail.
 #[derive(Drop)]
-pub(crate) struct CallPlan {
+pub(crate) struct FaultPlan {
     fails: Vec<u64>,
     calls: u64,
 }
 
-impl Model for CallPlan {
-    ghost use Rattle.bl_outer.specs.Mem.{Plan};
+impl Model for FaultPlan {
+    ghost use Rattle.bl_outer.specs.FaultPlan.{Plan};
 
     ghost Value = { Plan };
 
     ghost view = { λ a. record { fails = a.fails.items; calls = a.calls } };
 }
 
-impl CallPlan {
+impl FaultPlan {
     /// Counts from 1.
-    pub(crate) fn new(alloc: Global, fails: &[u64]) -> Result<CallPlan, AllocError>
-        ensures { IfOk result (λ plan. plan ≡ record { fails = fails.now; calls = 0 }) }
+    pub(crate) fn new(alloc: Global, fails: &[u64]) -> Result<FaultPlan, AllocError>
+        ensures { IfOk result (λ plan. plan ≡ new_plan fails.now) }
     {
-        Ok(CallPlan {
+        Ok(FaultPlan {
             fails: Vec::from_slice(alloc, fails)?,
             calls: 0,
         })
@@ -36,10 +37,10 @@ impl CallPlan {
 
     /// Counts a call, and says whether it is to fail.
     pub(crate) fn count(&mut self) -> bool
-        ensures planned { result ≡ is_planned self.old }
+        ensures planned { result ≡ is_to_fail self.old }
         ensures counted { self.new ≡ after_call self.old }
     {
-        self.calls = risen(self.calls);
+        self.calls = saturating_increment(self.calls);
         self.fails.contains(&self.calls)
     }
 }

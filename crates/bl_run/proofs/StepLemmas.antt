@@ -1,0 +1,241 @@
+-- From the steps of `solve` to how it ended.
+use Rattle.std.proofs.Common.{◌≡◌, ℕ, suc, ◌<◌, ◌≤◌, List, [], length, replicate, arith, refl, sym, subst, ◌∙◌, inl, inr}
+use Rattle.std.specs.Prelude.{pos, Option, None, Some}
+use Rattle.std.proofs.lemmas.List.{length-replicate}
+use Rattle.bl_outer.specs.Count.{Grew}
+use Rattle.bl_outer.specs.Files.{Files, IfTold, Holds, IsAbsent, Told}
+use Rattle.bl_outer.specs.Shelf.{ShelfState, NoReadFault}
+use Rattle.bl_outer.specs.Text.{IsTruncated}
+use Rattle.bl_outer.specs.Sink.{SinkState, Adds, AddsPrefix}
+use Rattle.bl_limits.specs.declared.TheConstants.{MAX_TEXT_BYTES, MAX_WALK_POINTS}
+use Rattle.bl_raw.specs.declared.raw.RawMps.{RawMps}
+use Rattle.bl_raw.specs.declared.raw.RawAux.{RawAux}
+use Rattle.bl_model.specs.Build.{program_of}
+use Rattle.bl_terms.specs.Programs.{root}
+use Rattle.bl_terms.specs.Trees.{point_count}
+use Rattle.bl_run.specs.declared.status.Answer.{Answer}
+use Rattle.bl_run.specs.declared.status.Answer.TheVariants as answer
+use Rattle.bl_run.specs.declared.status.Failure.{Failure}
+use Rattle.bl_run.specs.declared.status.Failure.TheVariants as failure
+use Rattle.bl_run.specs.Words.{SolveWords, AreSolveWords, AreRefused}
+use Rattle.bl_run.specs.Texts.{IsMpsText, IsAuxText}
+use Rattle.bl_run.specs.Report.{Statement}
+use Rattle.bl_run.specs.Report as report
+use Rattle.bl_run.specs.Endings.{Ending, Done, NoPoint, BadWords, BadText, NodesSpent, FollowerSpent, ReadFault, WriteFault, OutOfMemory, NotAccepted, Missing, ManyPoints, ToOutput}
+use Rattle.bl_run.specs.Solve.{Run, Reads, ReadsMps, Solves, ending_of, IsCause}
+use Rattle.bl_run.specs.Promise.{Outside, HasCause, CountsReadFault, CountsMiss, Leaves}
+use Rattle.bl_run.specs.Steps.{answer_ending, failure_ending, ReadsTo, HasText, FailsToRead, IsTooLong, IsBadMps, IsBadAux, IsReport, FailsToSolve, Ends, EndsCommand}
+
+-- there is a longer text than any limit
+some_longer : (limit : ℕ) → (text : List ℕ) × (limit < length text)
+some_longer limit = (replicate (suc limit) 0, simp length-replicate (omega arith))
+
+-- a file that was cut off has a text that is too long
+pub too_long : (files : Option Files) (name text : List ℕ) → IfTold files (IsTruncated name MAX_TEXT_BYTES text) → HasText files name IsTooLong
+too_long None name text h = record { text = (some_longer MAX_TEXT_BYTES).0; held = tt; is = (some_longer MAX_TEXT_BYTES).1 }
+too_long (Some told) name text h = record { text = h.bytes; held = h.held; is = h.longer }
+
+-- what counts at an ending, after a part in which no reading failed
+module _ (old middle new : ShelfState) (quiet : NoReadFault old middle) where
+  unfaulted : NoReadFault middle new → NoReadFault old new
+  unfaulted h = record { read_faults = h.read_faults ∙ quiet.read_faults; faulted = h.faulted ∙ quiet.faulted }
+
+  counted_after : (ending : Ending) → CountsReadFault ending middle new → CountsReadFault ending old new
+  counted_after (ReadFault file) h = record { counted = subst (λ (n : ℕ). Grew n new.read_faults) quiet.read_faults h.counted; named = h.named }
+  counted_after Done h = unfaulted h
+  counted_after NoPoint h = unfaulted h
+  counted_after BadWords h = unfaulted h
+  counted_after (BadText file place rule) h = unfaulted h
+  counted_after (NodesSpent budget made) h = unfaulted h
+  counted_after (FollowerSpent budget made link) h = unfaulted h
+  counted_after (WriteFault target) h = unfaulted h
+  counted_after OutOfMemory h = unfaulted h
+  counted_after (NotAccepted file line rule) h = unfaulted h
+  counted_after (Missing file) h = unfaulted h
+  counted_after (ManyPoints file) h = unfaulted h
+
+-- two calls that only read, of which the first succeeded
+pub reads_then : (old middle new : ShelfState) (ending : Ending) → ReadsTo Done old middle → ReadsTo ending middle new → ReadsTo ending old new
+reads_then old middle new ending g h = record {
+  reads = record { contents = h.reads.contents ∙ g.reads.contents; write_faults = h.reads.write_faults ∙ g.reads.write_faults };
+  read_faults = counted_after old middle new g.read_faults ending h.read_faults;
+  misses = subst (λ (n : ℕ). CountsMiss ending n new.misses) g.misses h.misses;
+}
+
+-- a run of which the words alone are known
+abbrev run_of : SolveWords → Run
+run_of asked = record {
+  words = asked;
+  mps_text = [];
+  mps = record { objective = []; rows = []; columns = [] };
+  aux_text = [];
+  aux = record { columns = []; rows = []; costs = []; sense = pos 1 };
+  statement = report.None;
+}
+
+-- the failure isn't one of writing
+abbrev IsUnwritten : Failure → Type 0
+IsUnwritten failure.WriteFault = ⊥
+IsUnwritten _ = Unit {0}
+
+-- what is left where nothing was written
+left : (run : Run) (old new : ShelfState) (out : SinkState) (failure : Failure) → IsUnwritten failure → ReadsTo (failure_ending failure) old new
+    → Leaves run (failure_ending failure) (record { files = old; out = out }) (record { files = new; out = out })
+left run old new out failure.Words is h = record { printed = refl; read_faults = h.read_faults; misses = h.misses; write_faults = (h.reads.write_faults, refl); files = h.reads.contents }
+left run old new out (failure.NotYet file) is h = record { printed = refl; read_faults = h.read_faults; misses = h.misses; write_faults = (h.reads.write_faults, refl); files = h.reads.contents }
+left run old new out (failure.ReadFault file) is h = record { printed = refl; read_faults = h.read_faults; misses = h.misses; write_faults = (h.reads.write_faults, refl); files = h.reads.contents }
+left run old new out failure.WriteFault is h = absurd is
+left run old new out failure.Memory is h = record { printed = refl; read_faults = h.read_faults; misses = h.misses; write_faults = (h.reads.write_faults, refl); files = h.reads.contents }
+left run old new out (failure.Missing file) is h = record { printed = refl; read_faults = h.read_faults; misses = h.misses; write_faults = (h.reads.write_faults, refl); files = h.reads.contents }
+
+-- where a file of one name is absent, so is that of the same name
+named_absent : (files : Option Files) (name file : List ℕ) → file ≡ name → IfTold files (λ told. IsAbsent told name) → IfTold files (λ told. IsAbsent told file)
+named_absent files name file e h = subst (λ (n : List ℕ). IfTold files (λ told. IsAbsent told n)) (sym e) h
+
+module _ (asked : SolveWords) (old new : ShelfState) (out : SinkState) where
+  -- the words weren't those of a command
+  pub ended_by : (run : Run) (failure : Failure) → run.words ≡ asked → IsUnwritten failure → IsCause old.contents run (failure_ending failure) → ReadsTo (failure_ending failure) old new
+      → Ends asked (record { files = old; out = out }) (record { files = new; out = out }) (failure_ending failure)
+  ended_by run failure words is cause h = record { run = run; words = words; cause = cause; leaves = left run old new out failure is h }
+
+  -- the MPS file wasn't read
+  pub mps_stops : (failure : Failure) → FailsToRead old.contents asked.mps IsBadMps failure → ReadsTo (failure_ending failure) old new
+      → Ends asked (record { files = old; out = out }) (record { files = new; out = out }) (failure_ending failure)
+  mps_stops failure.Words why h = absurd why
+  mps_stops (failure.NotYet file) why h =
+      ended_by (record (run_of asked) { mps_text = why.1.text }) (failure.NotYet file) refl tt (inl (record { named = why.0; held = why.1.held; fault = why.1.is })) h
+  mps_stops (failure.ReadFault file) why h = ended_by (run_of asked) (failure.ReadFault file) refl tt (inl why) h
+  mps_stops failure.WriteFault why h = absurd why
+  mps_stops failure.Memory why h = ended_by (run_of asked) failure.Memory refl tt tt h
+  mps_stops (failure.Missing file) why h =
+      ended_by (run_of asked) (failure.Missing file) refl tt (record { next = inl why.0; absent = named_absent old.contents asked.mps file.now why.0 why.1 }) h
+
+-- the MPS text was read, and the auxiliary file wasn't
+module _ (asked : SolveWords) (old middle new : ShelfState) (out : SinkState) (mps : RawMps) (read : HasText old.contents asked.mps (λ text. IsMpsText text mps)) (quiet : ReadsTo Done old middle) where
+  abbrev read_run : Run
+  read_run = record (run_of asked) { mps_text = read.text; mps = mps }
+
+  reads_mps : ReadsMps old.contents read_run
+  reads_mps = record { held = read.held; says = read.is }
+
+  stopped : (failure : Failure) → FailsToRead old.contents asked.aux (IsBadAux mps) failure → ReadsTo (failure_ending failure) old new
+      → Ends asked (record { files = old; out = out }) (record { files = new; out = out }) (failure_ending failure)
+  stopped failure.Words why h = absurd why
+  stopped (failure.NotYet file) why h =
+      ended_by asked old new out (record read_run { aux_text = why.1.text }) (failure.NotYet file) refl tt
+      (inr (inl (record { named = why.0; mps = record { held = read.held; says = read.is }; held = why.1.held; fault = why.1.is }))) h
+  stopped (failure.ReadFault file) why h = ended_by asked old new out read_run (failure.ReadFault file) refl tt (inr (why, reads_mps)) h
+  stopped failure.WriteFault why h = absurd why
+  stopped failure.Memory why h = ended_by asked old new out read_run failure.Memory refl tt tt h
+  stopped (failure.Missing file) why h =
+      ended_by asked old new out read_run (failure.Missing file) refl tt (record { next = inr (why.0, reads_mps); absent = named_absent old.contents asked.aux file.now why.0 why.1 }) h
+
+  pub aux_stops : (failure : Failure) → FailsToRead middle.contents asked.aux (IsBadAux mps) failure → ReadsTo (failure_ending failure) middle new
+      → Ends asked (record { files = old; out = out }) (record { files = new; out = out }) (failure_ending failure)
+  aux_stops failure why h =
+      stopped failure (subst (λ (files : Option Files). FailsToRead files asked.aux (IsBadAux mps) failure) quiet.reads.contents why)
+      (reads_then old middle new (failure_ending failure) quiet h)
+
+-- both texts were read
+module _ (asked : SolveWords) (old middle new : ShelfState) (mps : RawMps) (aux : RawAux)
+    (mps_read : HasText old.contents asked.mps (λ text. IsMpsText text mps)) (quiet : ReadsTo Done old middle)
+    (aux_read : HasText middle.contents asked.aux (λ text. IsAuxText mps text aux)) (still : ReadsTo Done middle new) where
+  abbrev both_run : Statement → Run
+  both_run statement = record { words = asked; mps_text = mps_read.text; mps = mps; aux_text = aux_read.text; aux = aux; statement = statement }
+
+  reads_both : (statement : Statement) → Reads old.contents (both_run statement)
+  reads_both statement = record {
+    mps = record { held = mps_read.held; says = mps_read.is };
+    held = subst (λ (files : Option Files). IfTold files (λ told. Holds told asked.aux aux_read.text)) quiet.reads.contents aux_read.held;
+    says = aux_read.is;
+  }
+
+  all_read : ReadsTo Done old new
+  all_read = reads_then old middle new Done quiet still
+
+  -- the model wasn't solved
+  pub solving_stops : (out : SinkState) (failure : Failure) → FailsToSolve asked.mps mps aux failure
+      → Ends asked (record { files = old; out = out }) (record { files = new; out = out }) (failure_ending failure)
+  solving_stops out failure.Words why = absurd why
+  solving_stops out (failure.NotYet file) why =
+      ended_by asked old new out (both_run report.None) (failure.NotYet file) refl tt
+      (inr (inr (record { named = why.0; reads = reads_both report.None; large = why.1; not_yet = (refl, refl) })))
+      (record { reads = all_read.reads; read_faults = all_read.read_faults; misses = all_read.misses })
+  solving_stops out (failure.ReadFault file) why = absurd why
+  solving_stops out failure.WriteFault why = absurd why
+  solving_stops out failure.Memory why =
+      ended_by asked old new out (both_run report.None) failure.Memory refl tt tt
+      (record { reads = all_read.reads; read_faults = all_read.read_faults; misses = all_read.misses })
+  solving_stops out (failure.Missing file) why = absurd why
+
+  module _ (out after : SinkState) (text : List ℕ) (says : Answer) (few : point_count (root (program_of mps aux)) ≤ MAX_WALK_POINTS) (told : IsReport mps.columns (program_of mps aux) says text) where
+    solved : Solves old.contents (both_run told.statement)
+    solved = record { reads = reads_both told.statement; few = few; right = told.right }
+
+    -- the report wasn't taken whole
+    pub printing_stops : Told (AddsPrefix text) out.bytes after.bytes → Grew out.faults after.faults
+        → Ends asked (record { files = old; out = out }) (record { files = new; out = after }) (WriteFault ToOutput)
+    printing_stops printed grew = record {
+      run = both_run told.statement;
+      words = refl;
+      cause = solved;
+      leaves = record {
+        printed = subst (λ (t : List ℕ). Told (AddsPrefix t) out.bytes after.bytes) told.spelled printed;
+        read_faults = all_read.read_faults;
+        misses = all_read.misses;
+        write_faults = (grew, all_read.reads.write_faults);
+        files = all_read.reads.contents;
+      };
+    }
+
+    -- the report was printed
+    pub answered : Told (Adds text) out.bytes after.bytes → after.faults ≡ out.faults
+        → Ends asked (record { files = old; out = out }) (record { files = new; out = after }) (answer_ending says)
+    answered printed same = at says told.same
+      where
+        line : Told (Adds (report.report_of mps.columns (program_of mps aux) told.statement)) out.bytes after.bytes
+        line = subst (λ (t : List ℕ). Told (Adds t) out.bytes after.bytes) told.spelled printed
+
+        at : (a : Answer) → ending_of told.statement ≡ answer_ending a → Ends asked (record { files = old; out = out }) (record { files = new; out = after }) (answer_ending a)
+        at answer.Optimal e = record {
+          run = both_run told.statement;
+          words = refl;
+          cause = (solved, e);
+          leaves = record { printed = line; read_faults = all_read.read_faults; misses = all_read.misses; write_faults = (all_read.reads.write_faults, same); files = all_read.reads.contents };
+        }
+        at answer.Infeasible e = record {
+          run = both_run told.statement;
+          words = refl;
+          cause = (solved, e);
+          leaves = record { printed = line; read_faults = all_read.read_faults; misses = all_read.misses; write_faults = (all_read.reads.write_faults, same); files = all_read.reads.contents };
+        }
+
+-- the words ask for nothing
+pub no_command : (words : List (List ℕ)) (outside : Outside) → AreRefused words → EndsCommand words outside outside BadWords
+no_command words outside none = record {
+  run = run_of (record { mps = []; aux = [] });
+  cause = none;
+  leaves = record { printed = refl; read_faults = record { read_faults = refl; faulted = refl }; misses = refl; write_faults = (refl, refl); files = refl };
+}
+
+-- the words ask for what was done
+caused : (words : List (List ℕ)) (files : Option Files) (run : Run) (ending : Ending) → AreSolveWords words run.words → IsCause files run ending → HasCause words files run ending
+caused words files run Done asked h = (asked, h)
+caused words files run NoPoint asked h = (asked, h)
+caused words files run BadWords asked h = absurd h
+caused words files run (BadText file place rule) asked h = (asked, h)
+caused words files run (NodesSpent budget made) asked h = (asked, h)
+caused words files run (FollowerSpent budget made link) asked h = (asked, h)
+caused words files run (ReadFault file) asked h = (asked, h)
+caused words files run (WriteFault target) asked h = (asked, h)
+caused words files run OutOfMemory asked h = (asked, h)
+caused words files run (NotAccepted file line rule) asked h = (asked, h)
+caused words files run (Missing file) asked h = (asked, h)
+caused words files run (ManyPoints file) asked h = (asked, h)
+
+pub command_ends : (words : List (List ℕ)) (asked : SolveWords) (old new : Outside) (ending : Ending) → AreSolveWords words asked → Ends asked old new ending → EndsCommand words old new ending
+command_ends words asked old new ending these h = record {
+  run = h.run;
+  cause = caused words old.files.contents h.run ending (subst (λ (w : SolveWords). AreSolveWords words w) (sym h.words) these) h.cause;
+  leaves = h.leaves;
+}

@@ -1,0 +1,93 @@
+-- Trusted: all that a top call promises of its words, its files and its outputs.
+use Rattle.std.specs.Prelude.{◌≡◌, ◌⊎◌, ℕ, ◌≤◌, List, Option, None, Some, ⊤}
+use Rattle.bl_outer.specs.Count.{Grew}
+use Rattle.bl_outer.specs.Files.{Files, IfTold, Told}
+use Rattle.bl_outer.specs.Shelf.{ShelfState, FaultsOn, NoReadFault}
+use Rattle.bl_outer.specs.Sink.{SinkState, Adds, AddsPrefix}
+use Rattle.bl_terms.specs.Programs.{root}
+use Rattle.bl_terms.specs.Trees.{point_count}
+use Rattle.bl_run.specs.Words.{AreSolveWords, AreRefused}
+use Rattle.bl_run.specs.Endings.{Place, ToFile, ToOutput, Ending, Done, NoPoint, BadWords, BadText, ReadFault, WriteFault, OutOfMemory, Missing, status_of, line_of}
+use Rattle.bl_run.specs.Solve.{Run, program, report, Reads, RefusesText, IsMissing, IsCause}
+use Rattle.bl_limits.specs.declared.TheConstants.{MAX_WALK_POINTS}
+
+-- what a command works on: the files and the output
+pub record Outside : Type 0 where
+  pub files : ShelfState
+  pub out : SinkState
+
+-- why the command ended so
+abbrev pub HasCause : List (List ℕ) → Option Files → Run → Ending → Type 0
+HasCause words files run BadWords = AreRefused words
+HasCause words files run ending = AreSolveWords words run.words × IsCause files run ending
+
+-- a fault of reading or want of memory, which may come before what would come else
+abbrev pub ComesFirst : Ending → Type 0
+ComesFirst (ReadFault file) = ⊤
+ComesFirst OutOfMemory = ⊤
+ComesFirst _ = ⊥
+
+-- an answer, or the fault of writing it
+abbrev pub IsAnswer : Ending → Type 0
+IsAnswer Done = ⊤
+IsAnswer NoPoint = ⊤
+IsAnswer (WriteFault target) = ⊤
+IsAnswer _ = ⊥
+
+-- a cause that stands in the files gives its ending
+pub record IsDue (words : List (List ℕ)) (ending : Ending) (files : Files) : Type 0 where
+  pub refused : (run : Run) (file : List ℕ) (place : Place) (rule : List ℕ)
+      → AreSolveWords words run.words → RefusesText (Some files) run file place rule → (ending ≡ BadText file place rule) ⊎ ComesFirst ending
+  pub missing : (run : Run) (file : List ℕ)
+      → AreSolveWords words run.words → IsMissing (Some files) run file → (ending ≡ Missing file) ⊎ ComesFirst ending
+  pub answered : (run : Run)
+      → AreSolveWords words run.words → Reads (Some files) run → point_count (root (program run)) ≤ MAX_WALK_POINTS → IsAnswer ending ⊎ ComesFirst ending
+
+-- what the ending leaves on the output: the report, some first bytes of it, or nothing
+abbrev pub Prints : Run → Ending → Option (List ℕ) → Option (List ℕ) → Type 0
+Prints run Done old new = Told (Adds (report run)) old new
+Prints run NoPoint old new = Told (Adds (report run)) old new
+Prints run (WriteFault target) old new = Told (AddsPrefix (report run)) old new
+Prints run _ old new = new ≡ old
+
+-- a read fault is counted, and is of the file that is named; else none is
+abbrev pub CountsReadFault : Ending → ShelfState → ShelfState → Type 0
+CountsReadFault (ReadFault file) old new = FaultsOn file old new
+CountsReadFault _ old new = NoReadFault old new
+
+-- a missing file is counted; else none is
+abbrev pub CountsMiss : Ending → ℕ → ℕ → Type 0
+CountsMiss (Missing file) old new = Grew old new
+CountsMiss _ old new = new ≡ old
+
+-- a write fault of a file is counted by the files, and one of the output by the output; else none is
+abbrev pub CountsWriteFault : Ending → Outside → Outside → Type 0
+CountsWriteFault (WriteFault (ToFile name)) old new = Grew old.files.write_faults new.files.write_faults × (new.out.faults ≡ old.out.faults)
+CountsWriteFault (WriteFault ToOutput) old new = Grew old.out.faults new.out.faults × (new.files.write_faults ≡ old.files.write_faults)
+CountsWriteFault _ old new = (new.files.write_faults ≡ old.files.write_faults) × (new.out.faults ≡ old.out.faults)
+
+-- what an ending leaves outside: what is printed, what is counted, and each file as it was
+pub record Leaves (run : Run) (ending : Ending) (old new : Outside) : Type 0 where
+  pub printed : Prints run ending old.out.bytes new.out.bytes
+  pub read_faults : CountsReadFault ending old.files new.files
+  pub misses : CountsMiss ending old.files.misses new.files.misses
+  pub write_faults : CountsWriteFault ending old new
+  pub files : new.files.contents ≡ old.files.contents
+
+-- The line stands at the end, or some first bytes of it do and the count of faults rose. Without a line nothing has changed.
+abbrev pub Tells : Option (List ℕ) → SinkState → SinkState → Type 0
+Tells None old new = new ≡ old
+Tells (Some line) old new =
+    (Told (Adds line) old.bytes new.bytes × (new.faults ≡ old.faults)) ⊎ (Told (AddsPrefix line) old.bytes new.bytes × Grew old.faults new.faults)
+
+-- The promise of a top call. There is one run, of which all the rest is said, and one ending. The status is the ending's, whose cause
+-- stands; where the files are told, a cause that stands gives its ending; the rest is what is left on the files and the two outputs.
+pub record Promise (words : List (List ℕ)) (old new : Outside) (old_err new_err : SinkState) (status : ℕ) : Type 0 where
+  pub run : Run
+  pub ending : Ending
+  pub is : status ≡ status_of ending
+  pub cause : HasCause words old.files.contents run ending
+  pub refused : AreRefused words → ending ≡ BadWords
+  pub due : IfTold old.files.contents (IsDue words ending)
+  pub leaves : Leaves run ending old new
+  pub told : Tells (line_of ending) old_err new_err

@@ -1,0 +1,109 @@
+-- Internal: what the private calls of a command promise one another.
+use Rattle.std.specs.Prelude.{◌≡◌, ℕ, ◌<◌, List, length, Option, Ok, Err, ⊤, codes}
+use Rattle.std.specs.declared.result.Result.{Result}
+use Rattle.bl_outer.specs.Files.{Files, IfTold, IsAbsent}
+use Rattle.bl_outer.specs.Files as outer
+use Rattle.bl_outer.specs.Shelf.{ShelfState, OnlyReads}
+use Rattle.bl_raw.specs.declared.raw.RawColumn.{RawColumn}
+use Rattle.bl_raw.specs.declared.raw.RawMps.{RawMps}
+use Rattle.bl_raw.specs.declared.raw.RawAux.{RawAux}
+use Rattle.bl_model.specs.Build.{program_of}
+use Rattle.bl_terms.specs.Programs.{Program, root}
+use Rattle.bl_terms.specs.Trees.{point_count}
+use Rattle.bl_run.specs.declared.status.Answer.{Answer}
+use Rattle.bl_run.specs.declared.status.Answer.TheVariants as answer
+use Rattle.bl_run.specs.declared.status.Failure.{Failure}
+use Rattle.bl_run.specs.declared.status.Failure.TheVariants as failure
+use Rattle.bl_run.specs.Words.{SolveWords}
+use Rattle.bl_run.specs.Texts.{IsMpsFault, IsAuxFault}
+use Rattle.bl_run.specs.Endings.{AsWhole, ToOutput, Ending, Done, NoPoint, BadWords, BadText, ReadFault, WriteFault, OutOfMemory, Missing}
+use Rattle.bl_run.specs.Report.{Statement, Holds, report_of}
+use Rattle.bl_run.specs.Solve.{Run, ending_of, IsCause}
+use Rattle.bl_run.specs.Promise.{Outside, HasCause, CountsReadFault, CountsMiss, Leaves}
+use Rattle.bl_limits.specs.declared.TheConstants.{MAX_TEXT_BYTES, MAX_WALK_POINTS}
+
+-- the ending with an answer
+abbrev pub answer_ending : Answer → Ending
+answer_ending answer.Optimal = Done
+answer_ending answer.Infeasible = NoPoint
+
+-- the ending with a failure
+abbrev pub failure_ending : Failure → Ending
+failure_ending failure.Words = BadWords
+failure_ending (failure.NotYet file) = BadText file.now AsWhole (codes "NotYet")
+failure_ending (failure.ReadFault file) = ReadFault file.now
+failure_ending failure.WriteFault = WriteFault ToOutput
+failure_ending failure.Memory = OutOfMemory
+failure_ending (failure.Missing file) = Missing file.now
+
+-- the ending with what a command answers
+abbrev pub result_ending : Result Answer Failure → Ending
+result_ending (Ok answer) = answer_ending answer
+result_ending (Err failure) = failure_ending failure
+
+-- a call that only reads, with what it counts at an ending
+pub record ReadsTo (ending : Ending) (old new : ShelfState) : Type 0 where
+  pub reads : OnlyReads old new
+  pub read_faults : CountsReadFault ending old new
+  pub misses : CountsMiss ending old.misses new.misses
+
+-- a call that only reads: it counts the cause of its failure, and nothing where it succeeds
+abbrev pub OnlyCounts : {T : Type 0} → ShelfState → ShelfState → Result T Failure → Type 0
+OnlyCounts old new (Ok _) = ReadsTo Done old new
+OnlyCounts old new (Err failure) = ReadsTo (failure_ending failure) old new
+
+-- a file has a text of which P holds; where the files aren't told, some text is meant
+pub record HasText (files : Option Files) (name : List ℕ) (P : List ℕ → Type 0) : Type 0 where
+  pub text : List ℕ
+  pub held : IfTold files (λ told. outer.Holds told name text)
+  pub is : P text
+
+-- why the file of this name isn't read, where texts of which Bad holds are refused
+abbrev pub FailsToRead : Option Files → List ℕ → (List ℕ → Type 0) → Failure → Type 0
+FailsToRead files name Bad failure.Words = ⊥
+FailsToRead files name Bad (failure.NotYet file) = (file.now ≡ name) × HasText files name Bad
+FailsToRead files name Bad (failure.ReadFault file) = file.now ≡ name
+FailsToRead files name Bad failure.WriteFault = ⊥
+FailsToRead files name Bad failure.Memory = ⊤
+FailsToRead files name Bad (failure.Missing file) = (file.now ≡ name) × IfTold files (λ told. IsAbsent told name)
+
+-- the text has more bytes than are read
+abbrev pub IsTooLong : List ℕ → Type 0
+IsTooLong text = MAX_TEXT_BYTES < length text
+
+-- the text isn't an MPS text that is read
+abbrev pub IsBadMps : List ℕ → Type 0
+IsBadMps text = IsMpsFault text AsWhole (codes "NotYet")
+
+-- the text isn't an auxiliary text of the model
+abbrev pub IsBadAux : RawMps → List ℕ → Type 0
+IsBadAux mps text = IsAuxFault mps text AsWhole (codes "NotYet")
+
+-- the text reports this answer by a statement that holds of the program
+pub record IsReport (columns : List RawColumn) (p : Program) (answer : Answer) (text : List ℕ) : Type 0 where
+  pub statement : Statement
+  pub right : Holds p statement
+  pub same : ending_of statement ≡ answer_ending answer
+  pub spelled : text ≡ report_of columns p statement
+
+-- why a model and its follower have no report: the box has too many points, for which the MPS file is named, or there is no memory
+abbrev pub FailsToSolve : List ℕ → RawMps → RawAux → Failure → Type 0
+FailsToSolve name mps aux failure.Words = ⊥
+FailsToSolve name mps aux (failure.NotYet file) = (file.now ≡ name) × (MAX_WALK_POINTS < point_count (root (program_of mps aux)))
+FailsToSolve name mps aux (failure.ReadFault file) = ⊥
+FailsToSolve name mps aux failure.WriteFault = ⊥
+FailsToSolve name mps aux failure.Memory = ⊤
+FailsToSolve name mps aux (failure.Missing file) = ⊥
+
+-- `solve` was asked this, and ended so
+pub record Ends (asked : SolveWords) (old new : Outside) (ending : Ending) : Type 0 where
+  pub run : Run
+  pub words : run.words ≡ asked
+  pub cause : IsCause old.files.contents run ending
+  pub leaves : Leaves run ending old new
+
+-- a command of these words ended so
+pub record EndsCommand (words : List (List ℕ)) (old new : Outside) (ending : Ending) : Type 0 where
+  pub run : Run
+  pub cause : HasCause words old.files.contents run ending
+  pub leaves : Leaves run ending old new

@@ -1,0 +1,267 @@
+//! Texts of models: first those of the folder `examples`, as they stand there.
+
+/// The example of Moore and Bard (1990).
+pub(super) const MOORE_BARD: &str = "\
+NAME          MOOREBARD
+ROWS
+ N  COST
+ L  C1
+ L  C2
+ L  C3
+ G  C4
+COLUMNS
+    MARKER1   'MARKER'  'INTORG'
+    X         COST      -1   C1   -25
+    X         C2         1   C3     2
+    X         C4         2
+    Y         COST     -10   C1    20
+    Y         C2         2   C3    -1
+    Y         C4        10
+    MARKER2   'MARKER'  'INTEND'
+RHS
+    RHS       C1        30   C2    10
+    RHS       C3        15   C4    15
+BOUNDS
+ UP BND       X         10
+ UP BND       Y         10
+ENDATA
+";
+
+pub(super) const MOORE_BARD_AUX: &str = "\
+N 1
+M 4
+LC 1
+LR 0
+LR 1
+LR 2
+LR 3
+LO 1
+OS 1
+";
+
+/// A toll on a fast road.
+pub(super) const TOLL: &str = "\
+NAME          TOLL
+ROWS
+ N  COST
+ G  ONEROAD
+ L  NOTBOTH
+ L  PAID
+COLUMNS
+    MARKER1   'MARKER'  'INTORG'
+    TOLL      PAID         1
+    FAST      ONEROAD      1   NOTBOTH      1
+    FAST      PAID         5
+    SLOW      ONEROAD      1   NOTBOTH      1
+    REVENUE   COST        -1   PAID        -1
+    MARKER2   'MARKER'  'INTEND'
+RHS
+    RHS       ONEROAD      1
+    RHS       NOTBOTH      1
+    RHS       PAID         5
+BOUNDS
+ UP BND       TOLL      5
+ UP BND       FAST      1
+ UP BND       SLOW      1
+ UP BND       REVENUE   5
+ENDATA
+";
+
+pub(super) const TOLL_AUX: &str = "\
+N 3
+M 3
+LC 1
+LC 2
+LC 3
+LR 0
+LR 1
+LR 2
+LO 2
+LO 6
+LO 1
+OS 1
+";
+
+/// A cargo that is stopped.
+pub(super) const INTERDICTION: &str = "\
+NAME          INTERDICTION
+ROWS
+ N  COST
+ L  BUDGET
+ L  KEPT1
+ L  KEPT2
+ L  KEPT3
+ L  ROOM
+COLUMNS
+    MARKER1   'MARKER'  'INTORG'
+    STOP1     BUDGET       1   KEPT1        1
+    STOP2     BUDGET       1   KEPT2        1
+    STOP3     BUDGET       1   KEPT3        1
+    TAKE1     COST         5   KEPT1        1
+    TAKE1     ROOM         2
+    TAKE2     COST         4   KEPT2        1
+    TAKE2     ROOM         3
+    TAKE3     COST         3   KEPT3        1
+    TAKE3     ROOM         2
+    MARKER2   'MARKER'  'INTEND'
+RHS
+    RHS       BUDGET       1
+    RHS       KEPT1        1
+    RHS       KEPT2        1
+    RHS       KEPT3        1
+    RHS       ROOM         4
+BOUNDS
+ UP BND       STOP1     1
+ UP BND       STOP2     1
+ UP BND       STOP3     1
+ UP BND       TAKE1     1
+ UP BND       TAKE2     1
+ UP BND       TAKE3     1
+ENDATA
+";
+
+pub(super) const INTERDICTION_AUX: &str = "\
+N 3
+M 4
+LC 3
+LC 4
+LC 5
+LR 1
+LR 2
+LR 3
+LR 4
+LO 5
+LO 4
+LO 3
+OS -1
+";
+
+/// A supplier who has the choice.
+pub(super) const TIES: &str = "\
+NAME          TIES
+ROWS
+ N  COST
+ L  DEMAND
+ L  DOCK
+COLUMNS
+    MARKER1   'MARKER'  'INTORG'
+    ORDER     COST        -2   DEMAND       1
+    NORTH     DEMAND      -1
+    SOUTH     COST        -1   DEMAND      -1
+    SOUTH     DOCK         1
+    MARKER2   'MARKER'  'INTEND'
+RHS
+    RHS       DOCK         1
+BOUNDS
+ UP BND       ORDER     3
+ UP BND       NORTH     2
+ UP BND       SOUTH     2
+ENDATA
+";
+
+pub(super) const TIES_AUX: &str = "\
+N 2
+M 1
+LC 1
+LC 2
+LR 0
+LO 1
+LO 1
+OS 1
+";
+
+/// X 0..3, Y 0..5, the follower's row Y - X <= 0, cost Y - 2X.
+pub(super) const RAMP: &str = "\
+NAME
+ROWS
+ N COST
+ L R
+COLUMNS
+ M 'MARKER' 'INTORG'
+ X COST -2 R -1
+ Y COST 1 R 1
+ M 'MARKER' 'INTEND'
+RHS
+BOUNDS
+ UP BND X 3
+ UP BND Y 5
+ENDATA
+";
+
+/// X, Y1, Y2 0..1, the leader's row Y1 + Y2 <= 1, cost -Y1 - Y2.
+pub(super) const CHOICE: &str = "\
+NAME
+ROWS
+ N COST
+ L R
+COLUMNS
+ M 'MARKER' 'INTORG'
+ X COST 0
+ Y1 COST -1 R 1
+ Y2 COST -1 R 1
+ M 'MARKER' 'INTEND'
+RHS
+ RHS R 1
+BOUNDS
+ UP BND X 1
+ UP BND Y1 1
+ UP BND Y2 1
+ENDATA
+";
+
+/// X, Y 0..1, the leader's row Y >= 1, cost X.
+pub(super) const UNWILLING: &str = "\
+NAME
+ROWS
+ N COST
+ G R
+COLUMNS
+ M 'MARKER' 'INTORG'
+ X COST 1
+ Y R 1
+ M 'MARKER' 'INTEND'
+RHS
+ RHS R 1
+BOUNDS
+ UP BND X 1
+ UP BND Y 1
+ENDATA
+";
+
+/// A, B 0..3, A + 2B <= 4, cost -2A - 3B, and no follower.
+pub(super) const ALONE: &str = "\
+NAME
+ROWS
+ N COST
+ L R
+COLUMNS
+ M 'MARKER' 'INTORG'
+ A COST -2 R 1
+ B COST -3 R 2
+ M 'MARKER' 'INTEND'
+RHS
+ RHS R 4
+BOUNDS
+ UP BND A 3
+ UP BND B 3
+ENDATA
+";
+
+/// A box of 101 · 101 · 101 points.
+pub(super) const LARGE: &str = "\
+NAME
+ROWS
+ N COST
+COLUMNS
+ M 'MARKER' 'INTORG'
+ A COST 1
+ B COST 1
+ C COST 1
+ M 'MARKER' 'INTEND'
+RHS
+BOUNDS
+ UP BND A 100
+ UP BND B 100
+ UP BND C 100
+ENDATA
+";
