@@ -35,7 +35,8 @@ or_false : (a b : Bool) → (a || b) ≡ false → (a ≡ false) × (b ≡ false
 or_false true b h = absurd cc
 or_false false b h = (refl, h)
 
-none-of : (p : ℤ → Bool) (xs : List ℤ) → list_any p xs ≡ false → (k : ℕ) (d : ℤ) → k < length xs → p (get_or xs k d) ≡ false
+none-of : (p : ℤ → Bool) (xs : List ℤ) → list_any p xs ≡ false → (k : ℕ) (d : ℤ) → k < length xs
+    → p (get_or xs k d) ≡ false
 none-of p [] h k d lt = absurd (omega arith)
 none-of p (x ∷ xs) h zero d lt = (or_false (p x) (list_any p xs) h).0
 none-of p (x ∷ xs) h (suc k) d lt = none-of p xs (or_false (p x) (list_any p xs) h).1 k d (omega arith)
@@ -43,25 +44,34 @@ none-of p (x ∷ xs) h (suc k) d lt = none-of p xs (or_false (p x) (list_any p x
 differ : (x y : ℤ) → int_eq x y ≡ false → x ≢ y
 differ x y h same = false≢true (sym h ∙ (Decides-int_eq x y).1 same)
 
-index-kept : (size : ℕ) (before : List ℤ) (number : ℤ) (given below : Bool) → list_any (λ other. int_eq other number) before ≡ given → is_below size number ≡ below → index_rule size before number ≡ None → (given ≡ false) × (below ≡ true)
-index-kept size before number true below g b e = let broken : index_rule size before number ≡ Some Repeated = rw g refl in absurd cc
+index-kept : (size : ℕ) (before : List ℤ) (number : ℤ) (given below : Bool)
+    → list_any (λ other. int_eq other number) before ≡ given → is_below size number ≡ below
+    → index_rule size before number ≡ None → (given ≡ false) × (below ≡ true)
+index-kept size before number true below g b e = let broken : index_rule size before number ≡ Some Repeated =
+    rw g refl in absurd cc
 index-kept size before number false true g b e = (refl, refl)
-index-kept size before number false false g b e = let broken : index_rule size before number ≡ bad_index false = rw (g, b) refl in absurd cc
+index-kept size before number false false g b e = let broken : index_rule size before number ≡ bad_index false =
+    rw (g, b) refl in absurd cc
 
-places-push : (limit : ℕ) (before : List ℤ) (number : ℤ) → ArePlaces limit before → index_rule limit before number ≡ None → ArePlaces limit (before ++ number ∷ [])
+places-push : (limit : ℕ) (before : List ℤ) (number : ℤ) → ArePlaces limit before
+    → index_rule limit before number ≡ None → ArePlaces limit (before ++ number ∷ [])
 places-push limit before number are e =
-    let kept = index-kept limit before number (list_any (λ other. int_eq other number) before) (is_below limit number) refl refl e in
+    let kept = index-kept limit before number (list_any (λ other. int_eq other number) before)
+    (is_below limit number) refl refl e in
     record {
       each_below = All-push (λ z. is_below limit z ≡ true) before number are.each_below kept.1;
-      distinct = all_pairs_push (λ x y. x ≢ y) before number are.distinct (λ k d lt. differ _ number (none-of (λ other. int_eq other number) before kept.0 k d lt));
+      distinct = all_pairs_push (λ x y. x ≢ y) before number are.distinct
+          (λ k d lt. differ _ number (none-of (λ other. int_eq other number) before kept.0 k d lt));
     }
 
-sense-is : (number : ℤ) (one other : Bool) → int_eq number (pos 1) ≡ one → int_eq number (negsuc 0) ≡ other → (one || other) ≡ true → IsSense number
+sense-is : (number : ℤ) (one other : Bool) → int_eq number (pos 1) ≡ one → int_eq number (negsuc 0) ≡ other
+    → (one || other) ≡ true → IsSense number
 sense-is number true other o t h = inl ((Decides-int_eq number (pos 1)).0 o)
 sense-is number false true o t h = inr ((Decides-int_eq number (negsuc 0)).0 t)
 sense-is number false false o t h = absurd (false≢true h)
 
-sense-kept : (before : List ℤ) (number : ℤ) (test : Bool) → (int_eq number (pos 1) || int_eq number (negsuc 0)) ≡ test → sense_rule before number ≡ None → test ≡ true
+sense-kept : (before : List ℤ) (number : ℤ) (test : Bool) → (int_eq number (pos 1) || int_eq number (negsuc 0)) ≡ test
+    → sense_rule before number ≡ None → test ≡ true
 sense-kept [] number true t e = refl
 sense-kept [] number false t e = let broken : sense_rule [] number ≡ Some BadSense = rw t refl in absurd cc
 sense-kept (z ∷ zs) number test t e = absurd cc
@@ -70,20 +80,65 @@ cond-right : (b : Bool) (rule : AuxRule) (other : Option AuxRule) → cond b (So
 cond-right true rule other e = absurd cc
 cond-right false rule other e = e
 
-good-key : (sizes : Sizes) (given : Given) (key : Key) (number : ℤ) → IsGood sizes given → key_rule sizes given key number ≡ None → is_large key number ≡ false → IsGood sizes (with_number given key number)
-good-key sizes given N number good e small = record { columns_are = good.columns_are; rows_are = good.rows_are; costs_small = good.costs_small; senses_are = good.senses_are }
-good-key sizes given M number good e small = record { columns_are = good.columns_are; rows_are = good.rows_are; costs_small = good.costs_small; senses_are = good.senses_are }
-good-key sizes given Lc number good e small = record { columns_are = places-push sizes.columns given.columns number good.columns_are e; rows_are = good.rows_are; costs_small = good.costs_small; senses_are = good.senses_are }
-good-key sizes given Lr number good e small = record { columns_are = good.columns_are; rows_are = places-push sizes.rows given.rows number good.rows_are e; costs_small = good.costs_small; senses_are = good.senses_are }
-good-key sizes given Lo number good e small = record { columns_are = good.columns_are; rows_are = good.rows_are; costs_small = All-push IsSmall given.costs number good.costs_small (ltb-false MAX_NUMBER (unsigned_abs number) small); senses_are = good.senses_are }
+good-key : (sizes : Sizes) (given : Given) (key : Key) (number : ℤ) → IsGood sizes given
+    → key_rule sizes given key number ≡ None → is_large key number ≡ false → IsGood sizes (with_number given key number)
+good-key sizes given N number good e small =
+    record {
+      columns_are = good.columns_are;
+      rows_are = good.rows_are;
+      costs_small = good.costs_small;
+      senses_are =
+          good.senses_are;
+    }
+good-key sizes given M number good e small =
+    record {
+      columns_are = good.columns_are;
+      rows_are = good.rows_are;
+      costs_small = good.costs_small;
+      senses_are =
+          good.senses_are;
+    }
+good-key sizes given Lc number good e small =
+    record {
+      columns_are = places-push sizes.columns given.columns number good.columns_are e;
+      rows_are = good.rows_are;
+      costs_small = good.costs_small;
+      senses_are = good.senses_are;
+    }
+good-key sizes given Lr number good e small =
+    record {
+      columns_are = good.columns_are;
+      rows_are = places-push sizes.rows given.rows number good.rows_are e;
+      costs_small = good.costs_small;
+      senses_are = good.senses_are;
+    }
+good-key sizes given Lo number good e small =
+    record {
+      columns_are = good.columns_are;
+      rows_are = good.rows_are;
+      costs_small =
+          All-push IsSmall given.costs number good.costs_small (ltb-false MAX_NUMBER (unsigned_abs number) small);
+      senses_are = good.senses_are;
+    }
 good-key sizes given Os number good e small =
     let test = sense-kept given.senses number (int_eq number (pos 1) || int_eq number (negsuc 0)) refl e in
-    record { columns_are = good.columns_are; rows_are = good.rows_are; costs_small = good.costs_small; senses_are = All-push IsSense given.senses number good.senses_are (sense-is number (int_eq number (pos 1)) (int_eq number (negsuc 0)) refl refl test) }
+    record {
+      columns_are = good.columns_are;
+      rows_are = good.rows_are;
+      costs_small = good.costs_small;
+      senses_are =
+          All-push IsSense given.senses number good.senses_are
+          (sense-is number (int_eq number (pos 1)) (int_eq number (negsuc 0)) refl refl test);
+    }
 
 -- one more entry that breaks no rule
-pub good-entry : (sizes : Sizes) (given : Given) (key : Key) (number : ℤ) → IsGood sizes given → entry_rule sizes given (record { key = key; number = number }) ≡ None → is_large key number ≡ false → IsGood sizes (with_number given key number)
+pub good-entry : (sizes : Sizes) (given : Given) (key : Key) (number : ℤ) → IsGood sizes given
+    → entry_rule sizes given (record { key = key; number = number }) ≡ None → is_large key number ≡ false
+    → IsGood sizes (with_number given key number)
 unfolding entry_rule
-good-entry sizes given key number good e small = good-key sizes given key number good (cond-right (is_out_of_order given key) OutOfOrder (key_rule sizes given key number) e) small
+good-entry sizes given key number good e small =
+    good-key sizes given key number good
+    (cond-right (is_out_of_order given key) OutOfOrder (key_rule sizes given key number) e) small
 
 below-pos : (limit : ℕ) (xs : List ℕ) → All (λ z. is_below limit z ≡ true) (map pos xs) → All (λ x. x < limit) xs
 below-pos limit xs h k d lt =
@@ -99,7 +154,8 @@ sense-of [] h = inl refl
 sense-of (z ∷ zs) h = h 0 z (omega arith)
 
 -- what is given well is a follower of the model
-pub fits : (sizes : Sizes) (given : Given) (aux : RawAux) → IsGood sizes given → CountsAgree given → IsGiven given aux → FitsModel sizes.columns sizes.rows aux
+pub fits : (sizes : Sizes) (given : Given) (aux : RawAux) → IsGood sizes given → CountsAgree given → IsGiven given aux
+    → FitsModel sizes.columns sizes.rows aux
 fits sizes given aux good counts is = record {
   columns = below-pos sizes.columns aux.columns (rw (is.columns) good.columns_are.each_below);
   distinct_columns = distinct-pos aux.columns (rw (is.columns) good.columns_are.distinct);

@@ -7,7 +7,8 @@ length-onto_first : (b : ℕ) (parts : List (List ℕ)) → length (onto_first b
 length-onto_first b [] = omega arith
 length-onto_first b (part ∷ parts) = omega arith
 
-step : (b : ℕ) (text : List ℕ) (feed : Bool) → eqb b 10 ≡ feed → length (lines_of text) ≤ length text → length (lines_of (b ∷ text)) ≤ length (b ∷ text)
+step : (b : ℕ) (text : List ℕ) (feed : Bool) → eqb b 10 ≡ feed → length (lines_of text) ≤ length text
+    → length (lines_of (b ∷ text)) ≤ length (b ∷ text)
 step b text true e h = rw e (omega arith)
 step b text false e h = rw e (omega (arith, length-onto_first b (lines_of text)))
 

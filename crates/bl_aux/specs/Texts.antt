@@ -12,7 +12,8 @@ use Rattle.bl_aux.specs.Given.{Given, Sizes, entries_of, given_by, line_rule}
 
 -- no line breaks a rule given the lines before it
 abbrev pub KeepsRules : Sizes → List (List ℕ) → Type 0
-KeepsRules sizes lines = (place : ℕ) → place < length lines → line_rule sizes (take place lines) (slice_index_or lines place []) ≡ None
+KeepsRules sizes lines = (place : ℕ) → place < length lines
+    → line_rule sizes (take place lines) (slice_index_or lines place []) ≡ None
 
 -- the counts that are announced are those of the lines that follow
 pub record CountsAgree (given : Given) : Type 0 where
@@ -43,13 +44,17 @@ pub record Says (sizes : Sizes) (text : List ℕ) (aux : RawAux) : Type 0 where
 pub record BreaksFirst (sizes : Sizes) (lines : List (List ℕ)) (place : ℕ) (rule : AuxRule) : Type 0 where
   pub within : place < length lines
   pub broken : line_rule sizes (take place lines) (slice_index_or lines place []) ≡ Some rule
-  pub kept : (earlier : ℕ) → earlier < place → line_rule sizes (take earlier lines) (slice_index_or lines earlier []) ≡ None
+  pub kept : (earlier : ℕ) → earlier < place
+      → line_rule sizes (take earlier lines) (slice_index_or lines earlier []) ≡ None
 
 -- the rule that a text breaks first, and its line
 pub data IsFirstFault (sizes : Sizes) (text : List ℕ) (fault : AuxFault) : Type 0 where
   too_long : MAX_TEXT_BYTES < length text → fault ≡ record { rule = TooLong; line = 0 } → IsFirstFault sizes text fault
-  at_line : length text ≤ MAX_TEXT_BYTES → (place : ℕ) (rule : AuxRule) → BreaksFirst sizes (lines_of text) place rule → fault ≡ record { rule = rule; line = place + 1 } → IsFirstFault sizes text fault
-  of_whole : length text ≤ MAX_TEXT_BYTES → KeepsRules sizes (lines_of text) → (CountsAgree (given_by (entries_of (lines_of text))) → ⊥) → fault ≡ record { rule = CountDiffers; line = 0 } → IsFirstFault sizes text fault
+  at_line : length text ≤ MAX_TEXT_BYTES → (place : ℕ) (rule : AuxRule) → BreaksFirst sizes (lines_of text) place rule
+      → fault ≡ record { rule = rule; line = place + 1 } → IsFirstFault sizes text fault
+  of_whole : length text ≤ MAX_TEXT_BYTES → KeepsRules sizes (lines_of text)
+      → (CountsAgree (given_by (entries_of (lines_of text))) → ⊥) → fault ≡ record { rule = CountDiffers; line = 0 }
+      → IsFirstFault sizes text fault
 
 -- An error names the first fault, or is want of memory, of which nothing is told.
 abbrev pub IsRefused : Sizes → List ℕ → AuxError → Type 0

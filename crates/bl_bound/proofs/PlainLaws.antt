@@ -47,50 +47,72 @@ sum_unit m r f h =
     sum_below_isolate m r g h ∙ ap (λ s. g r +ℤ s) rest ∙ ap (λ s. s +ℤ pos 0) own ∙ omega (arith, ints)
   where
     by : (k : ℕ) → (k ≡ r) ⊎ (k ≢ r) → without r (λ i. component (slice_set (zeros m) r (pos 1)) i *ℤ f i) k ≡ pos 0
-    by k (inl same) = subst (λ n. without r (λ i. component (slice_set (zeros m) r (pos 1)) i *ℤ f i) n ≡ pos 0) (sym same) (without-same r (λ i. component (slice_set (zeros m) r (pos 1)) i *ℤ f i))
-    by k (inr other) = without-other r k (λ i. component (slice_set (zeros m) r (pos 1)) i *ℤ f i) other ∙ ap (λ x. x *ℤ f k) (component-unit_other m r k other) ∙ zero-times (f k)
+    by k (inl same) = subst (λ n. without r (λ i. component (slice_set (zeros m) r (pos 1)) i *ℤ f i) n ≡ pos 0)
+        (sym same) (without-same r (λ i. component (slice_set (zeros m) r (pos 1)) i *ℤ f i))
+    by k (inr other) = without-other r k (λ i. component (slice_set (zeros m) r (pos 1)) i *ℤ f i) other
+        ∙ ap (λ x. x *ℤ f k) (component-unit_other m r k other) ∙ zero-times (f k)
 
 sum_zeros : (m n : ℕ) (f : ℕ → ℤ) → sum_below m (λ i. component (zeros n) i *ℤ f i) ≡ pos 0
-sum_zeros m n f = sum_below-zero m (λ i. component (zeros n) i *ℤ f i) (λ k l. ap (λ x. x *ℤ f k) (component-zeros n k) ∙ zero-times (f k))
+sum_zeros m n f = sum_below-zero m (λ i. component (zeros n) i *ℤ f i)
+    (λ k l. ap (λ x. x *ℤ f k) (component-zeros n k) ∙ zero-times (f k))
 
 -- ---- the bounds of one row and of the cost
 
 row_bound : (q : Problem) (r : ℕ) → IsProblem q → r < length q.rows
-    → dual_bound q (row_alone q r) ≡ least_value (linear_at q.rows r).coef q.area.lo q.area.hi -ℤ (linear_at q.rows r).rhs
+    → dual_bound q (row_alone q r) ≡ least_value (linear_at q.rows r).coef q.area.lo q.area.hi
+    -ℤ (linear_at q.rows r).rhs
 row_bound q r shape h =
     let row = linear_at q.rows r in
     let reduced : (j : ℕ) → reduced_cost q (row_alone q r) j ≡ component row.coef j =
-    λ j. ap (λ s. pos 0 *ℤ component q.cost j +ℤ s) (sum_unit (length q.rows) r (λ i. component (linear_at q.rows i).coef j) h) ∙ ap (λ z. z +ℤ component row.coef j) (zero-times (component q.cost j)) ∙ omega (arith, ints) in
+    λ j. ap (λ s. pos 0 *ℤ component q.cost j +ℤ s)
+    (sum_unit (length q.rows) r (λ i. component (linear_at q.rows i).coef j) h)
+    ∙ ap (λ z. z +ℤ component row.coef j) (zero-times (component q.cost j)) ∙ omega (arith, ints) in
     let terms : sum_below (length q.area.lo) (least_term q (row_alone q r)) ≡ least_value row.coef q.area.lo q.area.hi =
-    sum_below-agree (length q.area.lo) (least_term q (row_alone q r)) (λ j. least_product (component row.coef j) (component q.area.lo j) (component q.area.hi j))
+    sum_below-agree (length q.area.lo) (least_term q (row_alone q r))
+    (λ j. least_product (component row.coef j) (component q.area.lo j) (component q.area.hi j))
     (λ j l. ap (λ a. least_product a (component q.area.lo j) (component q.area.hi j)) (reduced j))
-    ∙ ap (λ n. sum_below n (λ j. least_product (component row.coef j) (component q.area.lo j) (component q.area.hi j))) (sym (shape.row_columns r h)) in
-    ap (λ s. s -ℤ rhs_sum q (row_alone q r)) terms ∙ ap (λ s. least_value row.coef q.area.lo q.area.hi -ℤ s) (sum_unit (length q.rows) r (λ i. (linear_at q.rows i).rhs) h)
+    ∙ ap (λ n. sum_below n (λ j. least_product (component row.coef j) (component q.area.lo j) (component q.area.hi j)))
+    (sym (shape.row_columns r h)) in
+    ap (λ s. s -ℤ rhs_sum q (row_alone q r)) terms
+    ∙ ap (λ s. least_value row.coef q.area.lo q.area.hi -ℤ s)
+    (sum_unit (length q.rows) r (λ i. (linear_at q.rows i).rhs) h)
 
 cost_bound : (q : Problem) → IsProblem q → dual_bound q (cost_alone q) ≡ least_value q.cost q.area.lo q.area.hi
 cost_bound q shape =
     let reduced : (j : ℕ) → reduced_cost q (cost_alone q) j ≡ component q.cost j =
-    λ j. ap (λ s. pos 1 *ℤ component q.cost j +ℤ s) (sum_zeros (length q.rows) (length q.rows) (λ i. component (linear_at q.rows i).coef j)) ∙ ap (λ z. z +ℤ pos 0) (one-*ℤ (component q.cost j)) ∙ omega (arith, ints) in
+    λ j. ap (λ s. pos 1 *ℤ component q.cost j +ℤ s)
+    (sum_zeros (length q.rows) (length q.rows) (λ i. component (linear_at q.rows i).coef j))
+    ∙ ap (λ z. z +ℤ pos 0) (one-*ℤ (component q.cost j)) ∙ omega (arith, ints) in
     let terms : sum_below (length q.area.lo) (least_term q (cost_alone q)) ≡ least_value q.cost q.area.lo q.area.hi =
-    sum_below-agree (length q.area.lo) (least_term q (cost_alone q)) (λ j. least_product (component q.cost j) (component q.area.lo j) (component q.area.hi j))
+    sum_below-agree (length q.area.lo) (least_term q (cost_alone q))
+    (λ j. least_product (component q.cost j) (component q.area.lo j) (component q.area.hi j))
     (λ j l. ap (λ a. least_product a (component q.area.lo j) (component q.area.hi j)) (reduced j))
-    ∙ ap (λ n. sum_below n (λ j. least_product (component q.cost j) (component q.area.lo j) (component q.area.hi j))) (sym shape.cost_columns) in
-    ap (λ s. s -ℤ rhs_sum q (cost_alone q)) terms ∙ ap (λ s. least_value q.cost q.area.lo q.area.hi -ℤ s) (sum_zeros (length q.rows) (length q.rows) (λ i. (linear_at q.rows i).rhs)) ∙ omega (arith, ints)
+    ∙ ap (λ n. sum_below n (λ j. least_product (component q.cost j) (component q.area.lo j) (component q.area.hi j)))
+    (sym shape.cost_columns) in
+    ap (λ s. s -ℤ rhs_sum q (cost_alone q)) terms
+    ∙ ap (λ s. least_value q.cost q.area.lo q.area.hi -ℤ s)
+    (sum_zeros (length q.rows) (length q.rows) (λ i. (linear_at q.rows i).rhs)) ∙ omega (arith, ints)
 
 row_target : (u : Option ℤ) (q : Problem) (r : ℕ) → target_of u (row_alone q r) ≡ pos 0
 row_target None q r = refl
 row_target (Some u) q r = zero-times (u -ℤ pos 1)
 
-unit_numbers : (m r k : ℕ) → r < m → (pos 0 ≤ℤ component (slice_set (zeros m) r (pos 1)) k) × (component (slice_set (zeros m) r (pos 1)) k ≤ℤ MAX_PROOF_NUMBER)
+unit_numbers : (m r k : ℕ) → r < m
+    → (pos 0 ≤ℤ component (slice_set (zeros m) r (pos 1)) k)
+    × (component (slice_set (zeros m) r (pos 1)) k ≤ℤ MAX_PROOF_NUMBER)
 unit_numbers m r k h = by (cases_eq k r)
   where
-    by : (k ≡ r) ⊎ (k ≢ r) → (pos 0 ≤ℤ component (slice_set (zeros m) r (pos 1)) k) × (component (slice_set (zeros m) r (pos 1)) k ≤ℤ MAX_PROOF_NUMBER)
-    by (inl same) = let e = ap (component (slice_set (zeros m) r (pos 1))) same ∙ component-unit m r h in rw e (omega (arith, ints), omega (arith, ints))
+    by : (k ≡ r) ⊎ (k ≢ r)
+        → (pos 0 ≤ℤ component (slice_set (zeros m) r (pos 1)) k)
+        × (component (slice_set (zeros m) r (pos 1)) k ≤ℤ MAX_PROOF_NUMBER)
+    by (inl same) = let e = ap (component (slice_set (zeros m) r (pos 1))) same ∙ component-unit m r h in
+        rw e (omega (arith, ints), omega (arith, ints))
     by (inr other) = let e = component-unit_other m r k other in rw e (omega (arith, ints), omega (arith, ints))
 
 -- ---- a row that passes 0 is a proof, and none else
 
-pub proves_by_row : (q : Problem) (u : Option ℤ) (r : ℕ) → IsProblem q → r < length q.rows → RowCloses q r → Proves q u (row_alone q r)
+pub proves_by_row : (q : Problem) (u : Option ℤ) (r : ℕ) → IsProblem q → r < length q.rows → RowCloses q r
+    → Proves q u (row_alone q r)
 proves_by_row q u r shape h closes = record {
   rows = length-set (zeros (length q.rows)) r (pos 1) ∙ length-zeros (length q.rows);
   multipliers = record {
@@ -103,7 +125,8 @@ proves_by_row q u r shape h closes = record {
   beyond = rw (row_target u q r, row_bound q r shape h) (omega (arith, ints));
 }
 
-pub row_from_proof : (q : Problem) (u : Option ℤ) (r : ℕ) → IsProblem q → r < length q.rows → Proves q u (row_alone q r) → RowCloses q r
+pub row_from_proof : (q : Problem) (u : Option ℤ) (r : ℕ) → IsProblem q → r < length q.rows
+    → Proves q u (row_alone q r) → RowCloses q r
 row_from_proof q u r shape h p =
     let b = rw (row_target u q r, row_bound q r shape h) at p.beyond in
     omega (arith, ints)
@@ -135,9 +158,11 @@ fixed_product a lo hi e = by (int_lt a (pos 0))
     by true = ap (λ z. a *ℤ z) (sym e)
     by false = refl
 
-fixed_value : (q : Problem) (cs : List ℤ) → IsOnePoint q.area → length cs ≡ length q.area.lo → least_value cs q.area.lo q.area.hi ≡ dot cs q.area.lo
+fixed_value : (q : Problem) (cs : List ℤ) → IsOnePoint q.area → length cs ≡ length q.area.lo
+    → least_value cs q.area.lo q.area.hi ≡ dot cs q.area.lo
 fixed_value q cs one e =
-    sum_below-agree (length cs) (λ j. least_product (component cs j) (component q.area.lo j) (component q.area.hi j)) (λ j. component cs j *ℤ component q.area.lo j)
+    sum_below-agree (length cs) (λ j. least_product (component cs j) (component q.area.lo j) (component q.area.hi j))
+    (λ j. component cs j *ℤ component q.area.lo j)
     (λ j l. fixed_product (component cs j) (component q.area.lo j) (component q.area.hi j) (one.fixed j (omega arith)))
 
 below : (z v : ℤ) → ((v -ℤ pos 1) <ℤ z → ⊥) → z <ℤ v
@@ -146,7 +171,8 @@ below z v h = by_lt_z (v -ℤ pos 1) z (λ l. absurd (h l)) (λ l. omega (arith,
 not_above : (a b : ℤ) → (b <ℤ a → ⊥) → a ≤ℤ b
 not_above a b h = by_lt_z b a (λ l. absurd (h l)) (λ l. l)
 
-better : (q : Problem) (u : Option ℤ) → IsProblem q → IsOnePoint q.area → NoRowAlone q u → ¬ Proves q u (cost_alone q) → IsBetterPoint q u q.area.lo
+better : (q : Problem) (u : Option ℤ) → IsProblem q → IsOnePoint q.area → NoRowAlone q u → ¬ Proves q u (cost_alone q)
+    → IsBetterPoint q u q.area.lo
 better q u shape one rows cost = record {
   point = record {
     inside = record { columns = refl; least = λ k l. omega (arith, ints); most = λ k l. shape.box.ordered k l };
@@ -154,7 +180,8 @@ better q u shape one rows cost = record {
       holds =
           let open_row : ¬ RowCloses q i = λ closes. rows i l (proves_by_row q u i shape l closes) in
           let e = fixed_value q (linear_at q.rows i).coef one (shape.row_columns i l) in
-          subst (λ z. z ≤ℤ (linear_at q.rows i).rhs) e (not_above (least_value (linear_at q.rows i).coef q.area.lo q.area.hi) (linear_at q.rows i).rhs open_row);
+          subst (λ z. z ≤ℤ (linear_at q.rows i).rhs) e
+          (not_above (least_value (linear_at q.rows i).coef q.area.lo q.area.hi) (linear_at q.rows i).rhs open_row);
     };
   };
   cost = by u (λ closes. cost (proves_by_cost q u shape closes));
@@ -167,15 +194,18 @@ better q u shape one rows cost = record {
         let past : ¬ ((v -ℤ pos 1) <ℤ dot q.cost q.area.lo) = λ l. h (subst (λ z. (v -ℤ pos 1) <ℤ z) (sym e) l) in
         below (dot q.cost q.area.lo) v past
 
-no_better : (q : Problem) (u : Option ℤ) (w : Multipliers) (z : List ℤ) → IsProblem q → Proves q u w → ¬ IsBetterPoint q u z
+no_better : (q : Problem) (u : Option ℤ) (w : Multipliers) (z : List ℤ) → IsProblem q → Proves q u w
+    → ¬ IsBetterPoint q u z
 no_better q None w z shape p b = no_cutoff_no_point q w z shape p b.point
-no_better q (Some u) w z shape p b = let least = weak_duality q u w z shape p b.point in let less = b.cost in omega (arith, ints)
+no_better q (Some u) w z shape p b = let least = weak_duality q u w z shape p b.point in let less = b.cost in
+    omega (arith, ints)
 
 proof_proves : (q : Problem) (u : Option ℤ) (w : Multipliers) → IsPlainProof q u (Some w) → Proves q u w
 proof_proves q u w (inl (r, first, e)) = subst (Proves q u) (sym e) first.proves
 proof_proves q u w (inr (rows, p, e)) = subst (Proves q u) (sym e) p
 
-pub one_point : (q : Problem) (u : Option ℤ) (o : Option Multipliers) → IsProblem q → IsPlainProof q u o → OnePointClause q u o
+pub one_point : (q : Problem) (u : Option ℤ) (o : Option Multipliers) → IsProblem q → IsPlainProof q u o
+    → OnePointClause q u o
 one_point q u None shape h one = (λ _. better q u shape one h.0 h.1, λ _. refl)
 one_point q u (Some w) shape h one = (λ e. cc, λ b. absurd (no_better q u w q.area.lo shape (proof_proves q u w h) b))
 
@@ -193,12 +223,27 @@ made den xs ys e = ap (proof_of den) e
 
 -- ---- what the tests of rows and cost say of proofs
 
-pub plain_by_row : (q : Problem) (u : Option ℤ) (w : Multipliers) (r : ℕ) → IsProblem q → IsFirstClosing q r → w ≡ row_alone q r → IsPlainProof q u (Some w)
+pub plain_by_row : (q : Problem) (u : Option ℤ) (w : Multipliers) (r : ℕ) → IsProblem q → IsFirstClosing q r
+    → w ≡ row_alone q r → IsPlainProof q u (Some w)
 plain_by_row q u w r shape first e =
-    inl (r, record { row_in = first.row_in; proves = proves_by_row q u r shape first.row_in first.closes; earlier = λ k l p. let before : k < length q.rows = (let h = first.row_in in omega arith) in first.earlier k l (row_from_proof q u k shape before p) }, e)
+    inl (
+      r,
+      record {
+        row_in = first.row_in;
+        proves = proves_by_row q u r shape first.row_in first.closes;
+        earlier =
+            λ k l p. let before : k < length q.rows = (let h = first.row_in in omega arith) in
+            first.earlier k l (row_from_proof q u k shape before p);
+      },
+      e,
+    )
 
-pub plain_by_cost : (q : Problem) (u : Option ℤ) (w : Multipliers) → IsProblem q → ((r : ℕ) → r < length q.rows → ¬ RowCloses q r) → CostCloses q u → w ≡ cost_alone q → IsPlainProof q u (Some w)
-plain_by_cost q u w shape none closes e = inr (λ r l p. none r l (row_from_proof q u r shape l p), proves_by_cost q u shape closes, e)
+pub plain_by_cost : (q : Problem) (u : Option ℤ) (w : Multipliers) → IsProblem q
+    → ((r : ℕ) → r < length q.rows → ¬ RowCloses q r) → CostCloses q u → w ≡ cost_alone q → IsPlainProof q u (Some w)
+plain_by_cost q u w shape none closes e =
+    inr (λ r l p. none r l (row_from_proof q u r shape l p), proves_by_cost q u shape closes, e)
 
-pub no_plain : (q : Problem) (u : Option ℤ) → IsProblem q → ((r : ℕ) → r < length q.rows → ¬ RowCloses q r) → ¬ CostCloses q u → IsPlainProof q u None
-no_plain q u shape none open_cost = (λ r l p. none r l (row_from_proof q u r shape l p), λ p. open_cost (cost_from_proof q u shape p))
+pub no_plain : (q : Problem) (u : Option ℤ) → IsProblem q → ((r : ℕ) → r < length q.rows → ¬ RowCloses q r)
+    → ¬ CostCloses q u → IsPlainProof q u None
+no_plain q u shape none open_cost =
+    (λ r l p. none r l (row_from_proof q u r shape l p), λ p. open_cost (cost_from_proof q u shape p))

@@ -1,4 +1,5 @@
--- Trusted: the proofs that need no search, each of one row alone or of the cost alone, and the points of a box that has but one.
+-- Trusted: the proofs that need no search, each of one row alone or of the cost alone, and the points of a box that has
+-- but one.
 use Rattle.std.specs.Prelude.{◌≡◌, ℕ, ◌<◌, ◌⊎◌, ◌↔◌, Option, Some, None, ℤ, pos, ◌<ℤ◌, List, length, slice_set}
 use Rattle.bl_whole.specs.Sums.{component, dot}
 use Rattle.bl_terms.specs.Points.{Area, zeros}
@@ -26,7 +27,8 @@ pub record IsFirstRowAlone (q : Problem) (u : Option ℤ) (r : ℕ) : Type 0 whe
 abbrev pub IsPlainProof : Problem → Option ℤ → Option Multipliers → Type 0
 IsPlainProof q u None = NoRowAlone q u × ¬ Proves q u (cost_alone q)
 IsPlainProof q u (Some w) =
-    ((r : ℕ) × IsFirstRowAlone q u r × (w ≡ row_alone q r)) ⊎ (NoRowAlone q u × Proves q u (cost_alone q) × (w ≡ cost_alone q))
+    ((r : ℕ) × IsFirstRowAlone q u r × (w ≡ row_alone q r))
+    ⊎ (NoRowAlone q u × Proves q u (cost_alone q) × (w ≡ cost_alone q))
 
 -- the box has one point
 pub record IsOnePoint (a : Area) : Type 0 where

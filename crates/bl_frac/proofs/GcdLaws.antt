@@ -60,7 +60,8 @@ gcd-mul_left k a b h =
     let right : k * m ∣ k * b = subst (λ x. x ∣ k * b) (sym whole) (gcd_dvd_right (k * a) (k * b)) in
     let inner : m ∣ gcd a b = dvd_gcd a b m (dvd_of_mul-dvd-mul_left m h left) (dvd_of_mul-dvd-mul_left m h right) in
     dvd_antisymm (subst (λ x. x ∣ k * gcd a b) whole (mul-dvd-mul_left m k inner))
-    (dvd_gcd (k * a) (k * b) (k * gcd a b) (mul-dvd-mul_left _ k (gcd_dvd_left a b)) (mul-dvd-mul_left _ k (gcd_dvd_right a b)))
+    (dvd_gcd (k * a) (k * b) (k * gcd a b) (mul-dvd-mul_left _ k (gcd_dvd_left a b))
+    (mul-dvd-mul_left _ k (gcd_dvd_right a b)))
 
 -- what divides a product and is coprime to one factor divides the other
 pub dvd_of_coprime : (a b c : ℕ) → gcd a c ≡ 1 → a ∣ b * c → a ∣ b

@@ -18,7 +18,8 @@ lcm_turned a b =
     let g = gcd a b in
     let left : (a / g) * g ≡ a = div-mul_cancel g (gcd_dvd_left a b) in
     let right : g * (b / g) ≡ b = mul-div_cancel' g (gcd_dvd_right a b) in
-    sym (ap (λ x. (a / g) * x) right) ∙ (let e : (a / g) * (g * (b / g)) ≡ ((a / g) * g) * (b / g) = omega arith in e) ∙ ap (λ x. x * (b / g)) left
+    sym (ap (λ x. (a / g) * x) right) ∙ (let e : (a / g) * (g * (b / g)) ≡ ((a / g) * g) * (b / g) = omega arith in e)
+    ∙ ap (λ x. x * (b / g)) left
 
 pub dvd_lcm_left : (a b : ℕ) → a ∣ lcm a b
 dvd_lcm_left a b = subst (λ x. a ∣ x) (sym (lcm_turned a b)) (dvd-mul_right a (b / gcd a b))
@@ -29,8 +30,10 @@ share_divides a b k some h =
     let g = gcd a b in
     let left : g * (a / g) ≡ a = mul-div_cancel' g (gcd_dvd_left a b) in
     let right : g * (b / g) ≡ b = mul-div_cancel' g (gcd_dvd_right a b) in
-    let product : g * ((b / g) * k) ≡ b * k = (let e : g * ((b / g) * k) ≡ (g * (b / g)) * k = omega arith in e) ∙ ap (λ x. x * k) right in
-    let inner : g * (a / g) ∣ g * ((b / g) * k) = subst (λ x. x ∣ g * ((b / g) * k)) (sym left) (subst (λ x. a ∣ x) (sym product) h) in
+    let product : g * ((b / g) * k) ≡ b * k =
+    (let e : g * ((b / g) * k) ≡ (g * (b / g)) * k = omega arith in e) ∙ ap (λ x. x * k) right in
+    let inner : g * (a / g) ∣ g * ((b / g) * k) =
+    subst (λ x. x ∣ g * ((b / g) * k)) (sym left) (subst (λ x. a ∣ x) (sym product) h) in
     let shares : a / g ∣ (b / g) * k = dvd_of_mul-dvd-mul_left (a / g) (gcd_positive a b some) inner in
     dvd_of_coprime (a / g) k (b / g) (coprime_shares a b some) (subst (λ x. a / g ∣ x) (mul_comm (b / g) k) shares)
 
@@ -45,7 +48,8 @@ lcm_dvd a b m some h l =
     subst (λ x. x ∣ m) (mul_comm b (a / g)) (subst (λ x. b * (a / g) ∣ x) whole scaled)
 
 pub lcm_positive : (a b : ℕ) → 0 < a → 0 < b → 0 < lcm a b
-lcm_positive a b ha hb = pos_of_dvd_of_pos (lcm_dvd a b (a * b) hb (dvd-mul_right a b) (dvd-mul_left b a)) (product_positive a b ha hb)
+lcm_positive a b ha hb =
+    pos_of_dvd_of_pos (lcm_dvd a b (a * b) hb (dvd-mul_right a b) (dvd-mul_left b a)) (product_positive a b ha hb)
 
 pub divisors : DivisorLaw
 divisors a b = record { left = gcd_dvd_left a b; right = gcd_dvd_right a b; greatest = dvd_gcd a b }

@@ -26,9 +26,12 @@ lowest_den z n = div-mul_cancel (gcd (unsigned_abs z) n) (gcd_dvd_right (unsigne
 sum_over_product : (a b : Fraction) → a.num *ℤ pos b.den +ℤ b.num *ℤ pos a.den ≡ sum_top a b *ℤ pos (gcd a.den b.den)
 sum_over_product a b =
     let g = gcd a.den b.den in
-    let left : sum_left a b *ℤ pos g ≡ a.num *ℤ pos b.den = scaled a.num (b.den / g) g ∙ ap (λ n. a.num *ℤ pos n) (div-mul_cancel g (gcd_dvd_right a.den b.den)) in
-    let right : sum_right a b *ℤ pos g ≡ b.num *ℤ pos a.den = scaled b.num (a.den / g) g ∙ ap (λ n. b.num *ℤ pos n) (div-mul_cancel g (gcd_dvd_left a.den b.den)) in
-    sym (+ℤ-*ℤ (sum_left a b) (sum_right a b) (pos g) ∙ ap (λ z. z +ℤ sum_right a b *ℤ pos g) left ∙ ap (λ z. a.num *ℤ pos b.den +ℤ z) right)
+    let left : sum_left a b *ℤ pos g ≡ a.num *ℤ pos b.den =
+    scaled a.num (b.den / g) g ∙ ap (λ n. a.num *ℤ pos n) (div-mul_cancel g (gcd_dvd_right a.den b.den)) in
+    let right : sum_right a b *ℤ pos g ≡ b.num *ℤ pos a.den =
+    scaled b.num (a.den / g) g ∙ ap (λ n. b.num *ℤ pos n) (div-mul_cancel g (gcd_dvd_left a.den b.den)) in
+    sym (+ℤ-*ℤ (sum_left a b) (sum_right a b) (pos g) ∙ ap (λ z. z +ℤ sum_right a b *ℤ pos g) left
+    ∙ ap (λ z. a.num *ℤ pos b.den +ℤ z) right)
 
 bottom_over_product : (a b : Fraction) → a.den * b.den ≡ sum_bottom a b * gcd a.den b.den
 bottom_over_product a b =
@@ -48,13 +51,17 @@ lowest_is_sum a b =
     let n = sum_bottom a b in
     let c = lowest t n in
     let g = gcd a.den b.den in
-    ap (λ m. c.num *ℤ pos m) (bottom_over_product a b) ∙ cross c.num t c.den (gcd (unsigned_abs t) n) g n (lowest_num t n) (lowest_den t n) ∙ ap (λ z. z *ℤ pos c.den) (sym (sum_over_product a b))
+    ap (λ m. c.num *ℤ pos m) (bottom_over_product a b)
+    ∙ cross c.num t c.den (gcd (unsigned_abs t) n) g n (lowest_num t n) (lowest_den t n)
+    ∙ ap (λ z. z *ℤ pos c.den) (sym (sum_over_product a b))
 
 pub sum_of-gives : Gives sum_of IsSum
 sum_of-gives a b c ha hb h =
     let told = sum_of-some a b c h in (
       subst (IsSum a b) told.0 (lowest_is_sum a b),
-      subst IsReduced told.0 (IsReduced-lowest (sum_top a b) (sum_bottom a b) (narrow_from_test (sum_top a b) told.3) (narrow_from_test (pos (sum_bottom a b)) told.4) (sum_bottom_positive a b ha hb)),
+      subst IsReduced told.0
+          (IsReduced-lowest (sum_top a b) (sum_bottom a b) (narrow_from_test (sum_top a b) told.3)
+          (narrow_from_test (pos (sum_bottom a b)) told.4) (sum_bottom_positive a b ha hb)),
     )
 
 pub sum_of-fails : FailsWhere sum_of IsWideSum
@@ -110,7 +117,9 @@ difference_of-fails a b = sum_of-fails a (negated b)
 
 factors : (x y : ℤ) (g h : ℕ) → (x *ℤ pos g) *ℤ (y *ℤ pos h) ≡ (x *ℤ y) *ℤ pos (g * h)
 factors x y g h =
-    *ℤ_assoc x (pos g) (y *ℤ pos h) ∙ ap (λ z. x *ℤ z) (sym (*ℤ_assoc (pos g) y (pos h)) ∙ ap (λ z. z *ℤ pos h) (*ℤ_comm (pos g) y) ∙ scaled y g h) ∙ sym (*ℤ_assoc x y (pos (g * h)))
+    *ℤ_assoc x (pos g) (y *ℤ pos h)
+    ∙ ap (λ z. x *ℤ z) (sym (*ℤ_assoc (pos g) y (pos h)) ∙ ap (λ z. z *ℤ pos h) (*ℤ_comm (pos g) y) ∙ scaled y g h)
+    ∙ sym (*ℤ_assoc x y (pos (g * h)))
 
 shares_are_product : (a b : Fraction) → IsProduct a b (record { num = product_top a b; den = product_bottom a b })
 shares_are_product a b =
@@ -125,13 +134,16 @@ shares_are_product a b =
     let fourth : (b.den / g) * g ≡ b.den = div-mul_cancel g (gcd_dvd_right (unsigned_abs a.num) b.den) in
     let size : a.den * b.den ≡ (g * h) * n =
     ap (λ m. m * b.den) (sym third) ∙ ap (λ m. (a.den / h) * h * m) (sym fourth) ∙ omega arith in
-    ap (λ m. (x *ℤ y) *ℤ pos m) size ∙ sym (scaled (x *ℤ y) (g * h) n) ∙ ap (λ z. z *ℤ pos n) (sym (factors x y g h) ∙ ap (λ z. z *ℤ (y *ℤ pos h)) first ∙ ap (λ z. a.num *ℤ z) second)
+    ap (λ m. (x *ℤ y) *ℤ pos m) size ∙ sym (scaled (x *ℤ y) (g * h) n)
+    ∙ ap (λ z. z *ℤ pos n) (sym (factors x y g h) ∙ ap (λ z. z *ℤ (y *ℤ pos h)) first ∙ ap (λ z. a.num *ℤ z) second)
 
 pub product_of-gives : Gives product_of IsProduct
 product_of-gives a b c ha hb h =
     let told = product_of-some a b c h in (
       subst (IsProduct a b) told.0 (shares_are_product a b),
-      subst IsReduced told.0 (IsReduced-product a b ha hb (narrow_from_test (product_top a b) told.1) (narrow_from_test (pos (product_bottom a b)) told.2)),
+      subst IsReduced told.0
+          (IsReduced-product a b ha hb (narrow_from_test (product_top a b) told.1)
+          (narrow_from_test (pos (product_bottom a b)) told.2)),
     )
 
 pub product_of-fails : FailsWhere product_of IsWideProduct
@@ -148,17 +160,25 @@ product_of-fails a b = (
 
 -- ---- the quotient
 
-by_natural : (m k : ℤ) (n d e f : ℕ) → k *ℤ pos (d * n) ≡ (m *ℤ pos e) *ℤ pos f → m *ℤ pos (f * e) ≡ (k *ℤ pos n) *ℤ pos d
+by_natural : (m k : ℤ) (n d e f : ℕ) → k *ℤ pos (d * n) ≡ (m *ℤ pos e) *ℤ pos f
+    → m *ℤ pos (f * e) ≡ (k *ℤ pos n) *ℤ pos d
 by_natural m k n d e f h =
-    ap (λ x. m *ℤ pos x) (mul_comm f e) ∙ sym (scaled m e f) ∙ sym h ∙ ap (λ x. k *ℤ pos x) (mul_comm d n) ∙ sym (scaled k n d)
+    ap (λ x. m *ℤ pos x) (mul_comm f e) ∙ sym (scaled m e f) ∙ sym h ∙ ap (λ x. k *ℤ pos x) (mul_comm d n)
+    ∙ sym (scaled k n d)
 
-by_negative : (m k : ℤ) (n d e f : ℕ) → k *ℤ pos (d * suc n) ≡ (m *ℤ neg_ℤ (pos e)) *ℤ pos f → m *ℤ pos (f * e) ≡ (k *ℤ negsuc n) *ℤ pos d
+by_negative : (m k : ℤ) (n d e f : ℕ) → k *ℤ pos (d * suc n) ≡ (m *ℤ neg_ℤ (pos e)) *ℤ pos f
+    → m *ℤ pos (f * e) ≡ (k *ℤ negsuc n) *ℤ pos d
 by_negative m k n d e f h =
-    let flipped : (neg_ℤ m *ℤ pos e) *ℤ pos f ≡ (m *ℤ neg_ℤ (pos e)) *ℤ pos f = ap (λ z. z *ℤ pos f) (neg_ℤ-*ℤ m (pos e) ∙ sym (*ℤ-neg_ℤ m (pos e))) in
-    let positive : neg_ℤ m *ℤ pos (f * e) ≡ (k *ℤ pos (suc n)) *ℤ pos d = by_natural (neg_ℤ m) k (suc n) d e f (h ∙ sym flipped) in
-    sym (neg-neg (m *ℤ pos (f * e))) ∙ ap neg_ℤ (sym (neg_ℤ-*ℤ m (pos (f * e)))) ∙ ap neg_ℤ positive ∙ sym (neg_ℤ-*ℤ (k *ℤ pos (suc n)) (pos d)) ∙ ap (λ z. z *ℤ pos d) (sym (*ℤ-neg_ℤ k (pos (suc n))))
+    let flipped : (neg_ℤ m *ℤ pos e) *ℤ pos f ≡ (m *ℤ neg_ℤ (pos e)) *ℤ pos f =
+    ap (λ z. z *ℤ pos f) (neg_ℤ-*ℤ m (pos e) ∙ sym (*ℤ-neg_ℤ m (pos e))) in
+    let positive : neg_ℤ m *ℤ pos (f * e) ≡ (k *ℤ pos (suc n)) *ℤ pos d =
+    by_natural (neg_ℤ m) k (suc n) d e f (h ∙ sym flipped) in
+    sym (neg-neg (m *ℤ pos (f * e))) ∙ ap neg_ℤ (sym (neg_ℤ-*ℤ m (pos (f * e)))) ∙ ap neg_ℤ positive
+    ∙ sym (neg_ℤ-*ℤ (k *ℤ pos (suc n)) (pos d)) ∙ ap (λ z. z *ℤ pos d) (sym (*ℤ-neg_ℤ k (pos (suc n))))
 
-quotient_from_product : (a b c : Fraction) (z : ℤ) → b.num ≡ z → c.num *ℤ pos (a.den * unsigned_abs z) ≡ (a.num *ℤ with_sign_of z b.den) *ℤ pos c.den → a.num *ℤ pos (c.den * b.den) ≡ (c.num *ℤ z) *ℤ pos a.den
+quotient_from_product : (a b c : Fraction) (z : ℤ) → b.num ≡ z
+    → c.num *ℤ pos (a.den * unsigned_abs z) ≡ (a.num *ℤ with_sign_of z b.den) *ℤ pos c.den
+    → a.num *ℤ pos (c.den * b.den) ≡ (c.num *ℤ z) *ℤ pos a.den
 quotient_from_product a b c (pos n) e h = by_natural a.num c.num n a.den b.den c.den h
 quotient_from_product a b c (negsuc n) e h = by_negative a.num c.num n a.den b.den c.den h
 
@@ -195,7 +215,9 @@ lowest_positive z n h = share_positive n (gcd (unsigned_abs z) n) h (gcd_dvd_rig
 
 pub sum_of-positive : (a b c : Fraction) → 0 < a.den → 0 < b.den → sum_of a b ≡ Some c → 0 < c.den
 sum_of-positive a b c ha hb h =
-    let bottom : 0 < sum_bottom a b = product_positive (a.den / gcd a.den b.den) b.den (share_positive a.den (gcd a.den b.den) ha (gcd_dvd_left a.den b.den)) hb in
+    let bottom : 0 < sum_bottom a b =
+    product_positive (a.den / gcd a.den b.den) b.den
+    (share_positive a.den (gcd a.den b.den) ha (gcd_dvd_left a.den b.den)) hb in
     subst (λ f. 0 < f.den) (sum_of-some a b c h).0 (lowest_positive (sum_top a b) (sum_bottom a b) bottom)
 
 pub difference_of-positive : (a b c : Fraction) → 0 < a.den → 0 < b.den → difference_of a b ≡ Some c → 0 < c.den
@@ -207,7 +229,8 @@ product_of-positive a b c ha hb h =
     let left = share_positive a.den (gcd (unsigned_abs b.num) a.den) ha (gcd_dvd_right (unsigned_abs b.num) a.den) in
     let right = share_positive b.den (gcd (unsigned_abs a.num) b.den) hb (gcd_dvd_right (unsigned_abs a.num) b.den) in
     let P : Fraction → Type 0 = λ f. 0 < f.den in
-    subst P (product_of-some a b c h).0 (product_positive (a.den / gcd (unsigned_abs b.num) a.den) (b.den / gcd (unsigned_abs a.num) b.den) left right)
+    subst P (product_of-some a b c h).0
+    (product_positive (a.den / gcd (unsigned_abs b.num) a.den) (b.den / gcd (unsigned_abs a.num) b.den) left right)
 
 pub quotient_of-positive : (a b c : Fraction) → 0 < a.den → (b.num ≡ pos 0 → ⊥) → quotient_of a b ≡ Some c → 0 < c.den
 unfolding quotient_of

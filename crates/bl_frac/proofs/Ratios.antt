@@ -55,13 +55,18 @@ whole_part_less k l q s t u ht hs h =
     let steps : (k + 1) * (q * s) ≤ l * (q * s) = mul-le-mul_right (q * s) (omega arith) in
     omega (arith, rest, steps)
 
-pub ratios_by_quotients : (p q r s : ℕ) → 0 < q → 0 < s → p / q ≢ r / s → nat_cmp (p / q) (r / s) ≡ nat_cmp (p * s) (r * q)
+pub ratios_by_quotients : (p q r s : ℕ) → 0 < q → 0 < s → p / q ≢ r / s
+    → nat_cmp (p / q) (r / s) ≡ nat_cmp (p * s) (r * q)
 ratios_by_quotients p q r s hq hs ne =
     let left : (p / q) * q + p % q ≡ p = div-add-mod' p q in
     let right : (r / s) * s + r % s ≡ r = div-add-mod' r s in
     nat_cmp-same (p / q) (r / s) (p * s) (r * q)
-    (λ h. subst (λ x. x * s < r * q) left (subst (λ y. ((p / q) * q + p % q) * s < y * q) right (whole_part_less (p / q) (r / s) q s (p % q) (r % s) (mod_below p q hq) hs h)))
-    (λ h. subst (λ y. y * q < p * s) right (subst (λ x. ((r / s) * s + r % s) * q < x * s) left (whole_part_less (r / s) (p / q) s q (r % s) (p % q) (mod_below r s hs) hq h)))
+    (λ h. subst (λ x. x * s < r * q) left
+    (subst (λ y. ((p / q) * q + p % q) * s < y * q) right
+    (whole_part_less (p / q) (r / s) q s (p % q) (r % s) (mod_below p q hq) hs h)))
+    (λ h. subst (λ y. y * q < p * s) right
+    (subst (λ x. ((r / s) * s + r % s) * q < x * s) left
+    (whole_part_less (r / s) (p / q) s q (r % s) (p % q) (mod_below r s hs) hq h)))
     (λ e. absurd (ne e))
 
 nat_cmp-offset : (c x y : ℕ) → nat_cmp (c + x) (c + y) ≡ nat_cmp x y
@@ -76,7 +81,8 @@ ratios_by_rests p q r s e =
     let first : p * s ≡ common + (p % q) * s = ap (λ x. x * s) (sym left) ∙ omega arith in
     let turned : k * s + r % s ≡ r = ap (λ x. x * s + r % s) e ∙ right in
     let second : r * q ≡ common + (r % s) * q = ap (λ x. x * q) (sym turned) ∙ omega arith in
-    ap (λ x. nat_cmp x (r * q)) first ∙ ap (λ y. nat_cmp (common + (p % q) * s) y) second ∙ nat_cmp-offset common ((p % q) * s) ((r % s) * q)
+    ap (λ x. nat_cmp x (r * q)) first ∙ ap (λ y. nat_cmp (common + (p % q) * s) y) second
+    ∙ nat_cmp-offset common ((p % q) * s) ((r % s) * q)
 
 pub product_positive : (m n : ℕ) → 0 < m → 0 < n → 0 < m * n
 product_positive m n hm hn = omega (arith, mul-lt-mul_of_pos_right hm hn)
@@ -84,7 +90,8 @@ product_positive m n hm hn = omega (arith, mul-lt-mul_of_pos_right hm hn)
 rest_alone : (t u q s : ℕ) → 0 < q → t ≡ 0 → nat_cmp t u ≡ nat_cmp (t * s) (u * q)
 rest_alone t u q s hq e =
     nat_cmp-same t u (t * s) (u * q)
-    (λ l. let none : t * s ≡ 0 = ap (λ x. x * s) e ∙ omega arith in omega (arith, product_positive u q (omega arith) hq))
+    (λ l. let none : t * s ≡ 0 = ap (λ x. x * s) e ∙ omega arith in
+    omega (arith, product_positive u q (omega arith) hq))
     (λ l. absurd (omega arith))
     (λ z.
     let left : t * s ≡ 0 * s = ap (λ x. x * s) e in
@@ -94,7 +101,8 @@ rest_alone t u q s hq e =
 nat_cmp_turned : (x y u v : ℕ) → nat_cmp y x ≡ nat_cmp v u → nat_cmp x y ≡ nat_cmp u v
 nat_cmp_turned x y u v h = grind (arith, nat_tests)
 
-pub ratios_at_zero : (t u q s : ℕ) → 0 < q → 0 < s → (t ≡ 0) ⊎ ((t ≡ 0 → ⊥) × (u ≡ 0)) → nat_cmp t u ≡ nat_cmp (t * s) (u * q)
+pub ratios_at_zero : (t u q s : ℕ) → 0 < q → 0 < s → (t ≡ 0) ⊎ ((t ≡ 0 → ⊥) × (u ≡ 0))
+    → nat_cmp t u ≡ nat_cmp (t * s) (u * q)
 ratios_at_zero t u q s hq hs h =
     elim h [
       | inl e ↦ rest_alone t u q s hq e
@@ -103,22 +111,28 @@ ratios_at_zero t u q s hq hs h =
 
 -- ---- by the signs
 
-pub order_of_naturals : (m n : ℤ) (d e : ℕ) → lt_z m (pos 0) ≡ false → lt_z n (pos 0) ≡ false → int_cmp (m *ℤ pos e) (n *ℤ pos d) ≡ nat_cmp (unsigned_abs m * e) (unsigned_abs n * d)
+pub order_of_naturals : (m n : ℤ) (d e : ℕ) → lt_z m (pos 0) ≡ false → lt_z n (pos 0) ≡ false
+    → int_cmp (m *ℤ pos e) (n *ℤ pos d) ≡ nat_cmp (unsigned_abs m * e) (unsigned_abs n * d)
 order_of_naturals (pos m) (pos n) d e hm hn = int_cmp-pos (m * e) (n * d)
 order_of_naturals (pos m) (negsuc n) d e hm hn = cc
 order_of_naturals (negsuc m) n d e hm hn = cc
 
-pub order_of_negatives : (m n : ℤ) (d e : ℕ) → lt_z m (pos 0) ≡ true → lt_z n (pos 0) ≡ true → int_cmp (m *ℤ pos e) (n *ℤ pos d) ≡ nat_cmp (unsigned_abs n * d) (unsigned_abs m * e)
+pub order_of_negatives : (m n : ℤ) (d e : ℕ) → lt_z m (pos 0) ≡ true → lt_z n (pos 0) ≡ true
+    → int_cmp (m *ℤ pos e) (n *ℤ pos d) ≡ nat_cmp (unsigned_abs n * d) (unsigned_abs m * e)
 order_of_negatives (pos m) n d e hm hn = absurd (not_below_zero m hm)
 order_of_negatives (negsuc m) (pos n) d e hm hn = absurd (not_below_zero n hn)
 order_of_negatives (negsuc m) (negsuc n) d e hm hn = int_cmp-neg (suc m * e) (suc n * d)
 
-pub order_below : (m n : ℤ) (d e : ℕ) → 0 < e → lt_z m (pos 0) ≡ true → lt_z n (pos 0) ≡ false → int_cmp (m *ℤ pos e) (n *ℤ pos d) ≡ Less
+pub order_below : (m n : ℤ) (d e : ℕ) → 0 < e → lt_z m (pos 0) ≡ true → lt_z n (pos 0) ≡ false
+    → int_cmp (m *ℤ pos e) (n *ℤ pos d) ≡ Less
 order_below (pos m) n d e h hm hn = absurd (not_below_zero m hm)
 order_below (negsuc m) (negsuc n) d e h hm hn = cc
-order_below (negsuc m) (pos n) d e h hm hn = below_natural (suc m * e) (n * d) (product_positive (suc m) e (omega arith) h)
+order_below (negsuc m) (pos n) d e h hm hn =
+    below_natural (suc m * e) (n * d) (product_positive (suc m) e (omega arith) h)
 
-pub order_above : (m n : ℤ) (d e : ℕ) → 0 < d → lt_z m (pos 0) ≡ false → lt_z n (pos 0) ≡ true → int_cmp (m *ℤ pos e) (n *ℤ pos d) ≡ Greater
+pub order_above : (m n : ℤ) (d e : ℕ) → 0 < d → lt_z m (pos 0) ≡ false → lt_z n (pos 0) ≡ true
+    → int_cmp (m *ℤ pos e) (n *ℤ pos d) ≡ Greater
 order_above m (pos n) d e h hm hn = absurd (not_below_zero n hn)
 order_above (negsuc m) (negsuc n) d e h hm hn = cc
-order_above (pos m) (negsuc n) d e h hm hn = above_negative (suc n * d) (m * e) (product_positive (suc n) d (omega arith) h)
+order_above (pos m) (negsuc n) d e h hm hn =
+    above_negative (suc n * d) (m * e) (product_positive (suc n) d (omega arith) h)

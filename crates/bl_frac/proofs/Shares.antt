@@ -17,7 +17,10 @@ magnitude-share (pos n) g = refl
 magnitude-share (negsuc n) g = magnitude-neg (suc n / g)
 
 -- how the magnitudes of a sum and of its terms are tied
-magnitudes : (x y : ℤ) → (unsigned_abs x ≡ unsigned_abs (x +ℤ y) + unsigned_abs y) ⊎ ((unsigned_abs x + unsigned_abs y ≡ unsigned_abs (x +ℤ y)) ⊎ (unsigned_abs x + unsigned_abs (x +ℤ y) ≡ unsigned_abs y))
+magnitudes : (x y : ℤ)
+    → (unsigned_abs x ≡ unsigned_abs (x +ℤ y) + unsigned_abs y)
+    ⊎ ((unsigned_abs x + unsigned_abs y ≡ unsigned_abs (x +ℤ y))
+    ⊎ (unsigned_abs x + unsigned_abs (x +ℤ y) ≡ unsigned_abs y))
 magnitudes (pos a) (pos b) = inr (inl refl)
 magnitudes (pos a) (negsuc b) = grind (arith, nat_tests)
 magnitudes (negsuc a) (pos b) = grind (arith, nat_tests)
@@ -45,22 +48,27 @@ coprime_sum x y p h e =
     (λ d k l. common_of_coprime (unsigned_abs x) p d e (dvd_other x y d k (dvd_trans d l h)) l)
 
 -- a numerator times the other denominator's share, against its own denominator's share
-coprime_term : (m : ℤ) (d e : ℕ) → 0 < d → 0 < e → gcd (unsigned_abs m) d ≡ 1 → gcd (unsigned_abs (m *ℤ pos (e / gcd d e))) (d / gcd d e) ≡ 1
+coprime_term : (m : ℤ) (d e : ℕ) → 0 < d → 0 < e → gcd (unsigned_abs m) d ≡ 1
+    → gcd (unsigned_abs (m *ℤ pos (e / gcd d e))) (d / gcd d e) ≡ 1
 coprime_term m d e hd he h =
     let g = gcd d e in
     let size : unsigned_abs (m *ℤ pos (e / g)) ≡ unsigned_abs m * (e / g) = unsigned_abs-mul m (pos (e / g)) in
     let own : gcd (unsigned_abs m) (d / g) ≡ 1 =
-    coprime_swap (d / g) (unsigned_abs m) (coprime_of_dvd d (unsigned_abs m) (d / g) (coprime_swap (unsigned_abs m) d h) (share_dvd d g (gcd_dvd_left d e))) in
+    coprime_swap (d / g) (unsigned_abs m)
+    (coprime_of_dvd d (unsigned_abs m) (d / g) (coprime_swap (unsigned_abs m) d h)
+    (share_dvd d g (gcd_dvd_left d e))) in
     let apart : gcd (e / g) (d / g) ≡ 1 = coprime_swap (d / g) (e / g) (coprime_shares d e he) in
     ap (λ x. gcd x (d / g)) size ∙ coprime-mul (unsigned_abs m) (e / g) (d / g) own apart
 
 share_in_term : (n : ℤ) (p : ℕ) → p ∣ unsigned_abs (n *ℤ pos p)
-share_in_term n p = subst (λ x. p ∣ x) (sym (unsigned_abs-mul n (pos p))) (dvd-mul_left_of_dvd p (dvd_refl p) (unsigned_abs n))
+share_in_term n p = subst (λ x. p ∣ x) (sym (unsigned_abs-mul n (pos p)))
+    (dvd-mul_left_of_dvd p (dvd_refl p) (unsigned_abs n))
 
 -- What is common to the numerator and the denominator of a sum is common to the numerator and the
 -- greatest common divisor of the two denominators.
 pub gcd_of_sum : (m n : ℤ) (d e : ℕ) → 0 < d → 0 < e → gcd (unsigned_abs m) d ≡ 1 → gcd (unsigned_abs n) e ≡ 1
-    → gcd (unsigned_abs (m *ℤ pos (e / gcd d e) +ℤ n *ℤ pos (d / gcd d e))) ((d / gcd d e) * e) ≡ gcd (unsigned_abs (m *ℤ pos (e / gcd d e) +ℤ n *ℤ pos (d / gcd d e))) (gcd d e)
+    → gcd (unsigned_abs (m *ℤ pos (e / gcd d e) +ℤ n *ℤ pos (d / gcd d e))) ((d / gcd d e) * e)
+    ≡ gcd (unsigned_abs (m *ℤ pos (e / gcd d e) +ℤ n *ℤ pos (d / gcd d e))) (gcd d e)
 gcd_of_sum m n d e hd he hm hn =
     let g = gcd d e in
     let x = m *ℤ pos (e / g) in
@@ -79,14 +87,17 @@ coprime_parts : (a b c k : ℕ) → gcd a b ≡ 1 → c ∣ a → k ∣ b → gc
 coprime_parts a b c k e p q = coprime_swap k c (coprime_of_dvd b c k (coprime_swap c b (coprime_of_dvd a b c e p)) q)
 
 -- the shares that a product multiplies
-pub coprime_products : (m d n e : ℕ) → 0 < d → 0 < e → gcd m d ≡ 1 → gcd n e ≡ 1 → gcd ((m / gcd m e) * (n / gcd n d)) ((d / gcd n d) * (e / gcd m e)) ≡ 1
+pub coprime_products : (m d n e : ℕ) → 0 < d → 0 < e → gcd m d ≡ 1 → gcd n e ≡ 1
+    → gcd ((m / gcd m e) * (n / gcd n d)) ((d / gcd n d) * (e / gcd m e)) ≡ 1
 coprime_products m d n e hd he hm hn =
     let g = gcd m e in
     let h = gcd n d in
     let across : gcd (m / g) (e / g) ≡ 1 = coprime_shares m e he in
     let back : gcd (n / h) (d / h) ≡ 1 = coprime_shares n d hd in
-    let first : gcd (m / g) (d / h) ≡ 1 = coprime_parts m d (m / g) (d / h) hm (share_dvd m g (gcd_dvd_left m e)) (share_dvd d h (gcd_dvd_right n d)) in
-    let second : gcd (n / h) (e / g) ≡ 1 = coprime_parts n e (n / h) (e / g) hn (share_dvd n h (gcd_dvd_left n d)) (share_dvd e g (gcd_dvd_right m e)) in
+    let first : gcd (m / g) (d / h) ≡ 1 =
+    coprime_parts m d (m / g) (d / h) hm (share_dvd m g (gcd_dvd_left m e)) (share_dvd d h (gcd_dvd_right n d)) in
+    let second : gcd (n / h) (e / g) ≡ 1 =
+    coprime_parts n e (n / h) (e / g) hn (share_dvd n h (gcd_dvd_left n d)) (share_dvd e g (gcd_dvd_right m e)) in
     let own : gcd ((m / g) * (n / h)) (d / h) ≡ 1 = coprime-mul (m / g) (n / h) (d / h) first back in
     let other : gcd ((m / g) * (n / h)) (e / g) ≡ 1 = coprime-mul (m / g) (n / h) (e / g) across second in
     gcd-mul_coprime ((m / g) * (n / h)) (d / h) (e / g) own ∙ other

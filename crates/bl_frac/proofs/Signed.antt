@@ -36,7 +36,11 @@ narrow-product x y hx hy =
     omega (arith, e, bound, size)
 
 -- what the product of two numbers of 64 bits is
-pub word_product : (x y p q m n : ℤ) → FitsSigned w128 x → FitsSigned w128 y → FitsSigned w64 (to_z w128 (of_z w128 x)) × (p ≡ to_z w128 (of_z w128 x)) → FitsSigned w64 (to_z w128 (of_z w128 y)) × (q ≡ to_z w128 (of_z w128 y)) → m ≡ to_z w64 (of_z w64 p) → n ≡ to_z w64 (of_z w64 q) → (to_z w128 (of_z w128 (to_z w128 (of_z w128 m) *ℤ to_z w128 (of_z w128 n))) ≡ x *ℤ y) × (narrow (x *ℤ y) ≡ true)
+pub word_product : (x y p q m n : ℤ) → FitsSigned w128 x → FitsSigned w128 y
+    → FitsSigned w64 (to_z w128 (of_z w128 x)) × (p ≡ to_z w128 (of_z w128 x))
+    → FitsSigned w64 (to_z w128 (of_z w128 y)) × (q ≡ to_z w128 (of_z w128 y)) → m ≡ to_z w64 (of_z w64 p)
+    → n ≡ to_z w64 (of_z w64 q)
+    → (to_z w128 (of_z w128 (to_z w128 (of_z w128 m) *ℤ to_z w128 (of_z w128 n))) ≡ x *ℤ y) × (narrow (x *ℤ y) ≡ true)
 word_product x y p q m n hx hy hp hq hm hn =
     let ex = to_z-of_z w128 x hx in
     let ey = to_z-of_z w128 y hy in
@@ -49,12 +53,14 @@ word_product x y p q m n hx hy hp hq hm hn =
     let size = narrow-product x y (word_size x fx) (word_size y fy) in
     let left : to_z w128 (of_z w128 m) ≡ x = ap (λ z. to_z w128 (of_z w128 z)) mx ∙ ex in
     let right : to_z w128 (of_z w128 n) ≡ y = ap (λ z. to_z w128 (of_z w128 z)) ny ∙ ey in (
-      ap (λ z. to_z w128 (of_z w128 (z *ℤ to_z w128 (of_z w128 n)))) left ∙ ap (λ z. to_z w128 (of_z w128 (x *ℤ z))) right ∙ signed_back (x *ℤ y) size,
+      ap (λ z. to_z w128 (of_z w128 (z *ℤ to_z w128 (of_z w128 n)))) left
+          ∙ ap (λ z. to_z w128 (of_z w128 (x *ℤ z))) right ∙ signed_back (x *ℤ y) size,
       narrow_test (x *ℤ y) size,
     )
 
 -- a number of 64 bits is narrow
-pub word_narrow : (n m : ℤ) → FitsSigned w64 n → m ≡ to_z w64 (of_z w64 n) → unsigned_abs (to_z w128 (of_z w128 m)) < 2 ^ 127
+pub word_narrow : (n m : ℤ) → FitsSigned w64 n → m ≡ to_z w64 (of_z w64 n)
+    → unsigned_abs (to_z w128 (of_z w128 m)) < 2 ^ 127
 word_narrow n m h e =
     let same : m ≡ n = e ∙ to_z-of_z w64 n h in
     let small : unsigned_abs n < 2 ^ 127 = omega (arith, word_size n h) in
@@ -62,7 +68,8 @@ word_narrow n m h e =
     subst (λ z. unsigned_abs z < 2 ^ 127) (sym back) small
 
 -- what a checked step gave is the number itself, and narrow
-pub narrowed_value : (z y x : ℤ) (r : Result ℤ WideFrac) → IsNarrowed z r → r ≡ Ok x → z ≡ y → (x ≡ y) × (unsigned_abs y < 2 ^ 127) × (to_z w128 (of_z w128 x) ≡ y)
+pub narrowed_value : (z y x : ℤ) (r : Result ℤ WideFrac) → IsNarrowed z r → r ≡ Ok x → z ≡ y
+    → (x ≡ y) × (unsigned_abs y < 2 ^ 127) × (to_z w128 (of_z w128 x) ≡ y)
 narrowed_value z y x r h e same =
     let both : (x ≡ z) × (narrow z ≡ true) = subst (IsNarrowed z) e h in
     let value : x ≡ y = both.0 ∙ same in
@@ -70,11 +77,13 @@ narrowed_value z y x r h e same =
     (value, small, ap (λ w. to_z w128 (of_z w128 w)) value ∙ signed_back y small)
 
 -- what a checked step refused is wide
-pub narrowed_error : (z y : ℤ) (e : WideFrac) (r : Result ℤ WideFrac) → IsNarrowed z r → r ≡ Err e → z ≡ y → narrow y ≡ false
+pub narrowed_error : (z y : ℤ) (e : WideFrac) (r : Result ℤ WideFrac) → IsNarrowed z r → r ≡ Err e → z ≡ y
+    → narrow y ≡ false
 narrowed_error z y e r h is same = subst (λ w. narrow w ≡ false) same (subst (IsNarrowed z) is h)
 
 -- a number that landed: what it is, that it is narrow, and how the code reads it again
-pub landed : (x z y : ℤ) → (x ≡ z) × (narrow z ≡ true) → z ≡ y → (x ≡ y) × (narrow y ≡ true) × (to_z w128 (of_z w128 x) ≡ y)
+pub landed : (x z y : ℤ) → (x ≡ z) × (narrow z ≡ true) → z ≡ y
+    → (x ≡ y) × (narrow y ≡ true) × (to_z w128 (of_z w128 x) ≡ y)
 landed x z y h same =
     let value : x ≡ y = h.0 ∙ same in
     let test : narrow y ≡ true = subst (λ w. narrow w ≡ true) same h.1 in

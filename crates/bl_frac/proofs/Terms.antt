@@ -8,14 +8,16 @@ use Rattle.bl_simplex.specs.Fractions.{Fraction, narrow, lowest, sum_left, sum_r
 use Rattle.bl_frac.proofs.Signed.{signed_back, signed_of}
 
 -- a numerator times a share
-pub term : (m : ℤ) (e k g l : ℕ) → unsigned_abs m < 2 ^ 127 → e < 2 ^ 127 → l ≡ g → k ≡ e / l → k ≤ e → to_z w128 (of_z w128 m) *ℤ to_z w128 k ≡ m *ℤ pos (e / g)
+pub term : (m : ℤ) (e k g l : ℕ) → unsigned_abs m < 2 ^ 127 → e < 2 ^ 127 → l ≡ g → k ≡ e / l → k ≤ e
+    → to_z w128 (of_z w128 m) *ℤ to_z w128 k ≡ m *ℤ pos (e / g)
 term m e k g l hm he hl hk bound =
     let small : k < 2 ^ 127 = omega arith in
     let share : k ≡ e / g = hk ∙ ap (λ x. e / x) hl in
     ap (λ z. z *ℤ to_z w128 k) (signed_back m hm) ∙ ap (λ z. m *ℤ z) (signed_of k small) ∙ ap (λ x. m *ℤ pos x) share
 
 -- a share times a denominator
-pub denominator : (d e k g l : ℕ) → d < 2 ^ 127 → e < 2 ^ 127 → l ≡ g → k ≡ d / l → k ≤ d → to_z w128 k *ℤ to_z w128 e ≡ pos ((d / g) * e)
+pub denominator : (d e k g l : ℕ) → d < 2 ^ 127 → e < 2 ^ 127 → l ≡ g → k ≡ d / l → k ≤ d
+    → to_z w128 k *ℤ to_z w128 e ≡ pos ((d / g) * e)
 denominator d e k g l hd he hl hk bound =
     let small : k < 2 ^ 127 = omega arith in
     let share : k ≡ d / g = hk ∙ ap (λ x. d / x) hl in
@@ -50,7 +52,8 @@ fourth_fails true true false s f h = refl
 fourth_fails true true true false f h = refl
 fourth_fails true true true true f h = cc
 
-all_hold : (p q r s : Bool) (f : Fraction) → p ≡ true → q ≡ true → r ≡ true → s ≡ true → cond (p && (q && (r && s))) (Some f) None ≡ Some f
+all_hold : (p q r s : Bool) (f : Fraction) → p ≡ true → q ≡ true → r ≡ true → s ≡ true
+    → cond (p && (q && (r && s))) (Some f) None ≡ Some f
 all_hold true true true true f hp hq hr hs = refl
 all_hold false q r s f hp hq hr hs = cc
 all_hold true false r s f hp hq hr hs = cc
@@ -59,23 +62,35 @@ all_hold true true true false f hp hq hr hs = cc
 
 pub sum_of-wide_left : (a b : Fraction) → narrow (sum_left a b) ≡ false → sum_of a b ≡ None
 unfolding sum_of
-sum_of-wide_left a b h = first_fails (narrow (sum_left a b)) (narrow (sum_right a b)) (narrow (sum_top a b)) (narrow (pos (sum_bottom a b))) (lowest (sum_top a b) (sum_bottom a b)) h
+sum_of-wide_left a b h =
+    first_fails (narrow (sum_left a b)) (narrow (sum_right a b)) (narrow (sum_top a b)) (narrow (pos (sum_bottom a b)))
+    (lowest (sum_top a b) (sum_bottom a b)) h
 
 pub sum_of-wide_right : (a b : Fraction) → narrow (sum_right a b) ≡ false → sum_of a b ≡ None
 unfolding sum_of
-sum_of-wide_right a b h = second_fails (narrow (sum_left a b)) (narrow (sum_right a b)) (narrow (sum_top a b)) (narrow (pos (sum_bottom a b))) (lowest (sum_top a b) (sum_bottom a b)) h
+sum_of-wide_right a b h =
+    second_fails (narrow (sum_left a b)) (narrow (sum_right a b)) (narrow (sum_top a b))
+    (narrow (pos (sum_bottom a b))) (lowest (sum_top a b) (sum_bottom a b)) h
 
 pub sum_of-wide_top : (a b : Fraction) → narrow (sum_top a b) ≡ false → sum_of a b ≡ None
 unfolding sum_of
-sum_of-wide_top a b h = third_fails (narrow (sum_left a b)) (narrow (sum_right a b)) (narrow (sum_top a b)) (narrow (pos (sum_bottom a b))) (lowest (sum_top a b) (sum_bottom a b)) h
+sum_of-wide_top a b h =
+    third_fails (narrow (sum_left a b)) (narrow (sum_right a b)) (narrow (sum_top a b)) (narrow (pos (sum_bottom a b)))
+    (lowest (sum_top a b) (sum_bottom a b)) h
 
 pub sum_of-wide_bottom : (a b : Fraction) → narrow (pos (sum_bottom a b)) ≡ false → sum_of a b ≡ None
 unfolding sum_of
-sum_of-wide_bottom a b h = fourth_fails (narrow (sum_left a b)) (narrow (sum_right a b)) (narrow (sum_top a b)) (narrow (pos (sum_bottom a b))) (lowest (sum_top a b) (sum_bottom a b)) h
+sum_of-wide_bottom a b h =
+    fourth_fails (narrow (sum_left a b)) (narrow (sum_right a b)) (narrow (sum_top a b))
+    (narrow (pos (sum_bottom a b))) (lowest (sum_top a b) (sum_bottom a b)) h
 
-pub sum_of-narrow : (a b : Fraction) → narrow (sum_left a b) ≡ true → narrow (sum_right a b) ≡ true → narrow (sum_top a b) ≡ true → narrow (pos (sum_bottom a b)) ≡ true → sum_of a b ≡ Some (lowest (sum_top a b) (sum_bottom a b))
+pub sum_of-narrow : (a b : Fraction) → narrow (sum_left a b) ≡ true → narrow (sum_right a b) ≡ true
+    → narrow (sum_top a b) ≡ true → narrow (pos (sum_bottom a b)) ≡ true
+    → sum_of a b ≡ Some (lowest (sum_top a b) (sum_bottom a b))
 unfolding sum_of
-sum_of-narrow a b p q r s = all_hold (narrow (sum_left a b)) (narrow (sum_right a b)) (narrow (sum_top a b)) (narrow (pos (sum_bottom a b))) (lowest (sum_top a b) (sum_bottom a b)) p q r s
+sum_of-narrow a b p q r s =
+    all_hold (narrow (sum_left a b)) (narrow (sum_right a b)) (narrow (sum_top a b)) (narrow (pos (sum_bottom a b)))
+    (lowest (sum_top a b) (sum_bottom a b)) p q r s
 
 -- ---- the tests of a product
 
@@ -95,26 +110,35 @@ both_hold true false f hp hq = cc
 
 pub product_of-wide_top : (a b : Fraction) → narrow (product_top a b) ≡ false → product_of a b ≡ None
 unfolding product_of
-product_of-wide_top a b h = one_fails (narrow (product_top a b)) (narrow (pos (product_bottom a b))) (record { num = product_top a b; den = product_bottom a b }) h
+product_of-wide_top a b h =
+    one_fails (narrow (product_top a b)) (narrow (pos (product_bottom a b)))
+    (record { num = product_top a b; den = product_bottom a b }) h
 
 pub product_of-wide_bottom : (a b : Fraction) → narrow (pos (product_bottom a b)) ≡ false → product_of a b ≡ None
 unfolding product_of
-product_of-wide_bottom a b h = other_fails (narrow (product_top a b)) (narrow (pos (product_bottom a b))) (record { num = product_top a b; den = product_bottom a b }) h
+product_of-wide_bottom a b h =
+    other_fails (narrow (product_top a b)) (narrow (pos (product_bottom a b)))
+    (record { num = product_top a b; den = product_bottom a b }) h
 
-pub product_of-narrow : (a b : Fraction) → narrow (product_top a b) ≡ true → narrow (pos (product_bottom a b)) ≡ true → product_of a b ≡ Some (record { num = product_top a b; den = product_bottom a b })
+pub product_of-narrow : (a b : Fraction) → narrow (product_top a b) ≡ true → narrow (pos (product_bottom a b)) ≡ true
+    → product_of a b ≡ Some (record { num = product_top a b; den = product_bottom a b })
 unfolding product_of
-product_of-narrow a b p q = both_hold (narrow (product_top a b)) (narrow (pos (product_bottom a b))) (record { num = product_top a b; den = product_bottom a b }) p q
+product_of-narrow a b p q =
+    both_hold (narrow (product_top a b)) (narrow (pos (product_bottom a b)))
+    (record { num = product_top a b; den = product_bottom a b }) p q
 
 -- ---- what an answer tells of the tests
 
-four_held : (p q r s : Bool) (f c : Fraction) → cond (p && (q && (r && s))) (Some f) None ≡ Some c → (f ≡ c) × (p ≡ true) × (q ≡ true) × (r ≡ true) × (s ≡ true)
+four_held : (p q r s : Bool) (f c : Fraction) → cond (p && (q && (r && s))) (Some f) None ≡ Some c
+    → (f ≡ c) × (p ≡ true) × (q ≡ true) × (r ≡ true) × (s ≡ true)
 four_held true true true true f c h = (cc, refl, refl, refl, refl)
 four_held false q r s f c h = cc
 four_held true false r s f c h = cc
 four_held true true false s f c h = cc
 four_held true true true false f c h = cc
 
-one_of_four : (p q r s : Bool) (f : Fraction) → cond (p && (q && (r && s))) (Some f) None ≡ None → (p ≡ false) ⊎ ((q ≡ false) ⊎ ((r ≡ false) ⊎ (s ≡ false)))
+one_of_four : (p q r s : Bool) (f : Fraction) → cond (p && (q && (r && s))) (Some f) None ≡ None
+    → (p ≡ false) ⊎ ((q ≡ false) ⊎ ((r ≡ false) ⊎ (s ≡ false)))
 one_of_four false q r s f h = inl refl
 one_of_four true false r s f h = inr (inl refl)
 one_of_four true true false s f h = inr (inr (inl refl))
@@ -131,18 +155,32 @@ one_of_two false q f h = inl refl
 one_of_two true false f h = inr refl
 one_of_two true true f h = cc
 
-pub sum_of-some : (a b c : Fraction) → sum_of a b ≡ Some c → (lowest (sum_top a b) (sum_bottom a b) ≡ c) × (narrow (sum_left a b) ≡ true) × (narrow (sum_right a b) ≡ true) × (narrow (sum_top a b) ≡ true) × (narrow (pos (sum_bottom a b)) ≡ true)
+pub sum_of-some : (a b c : Fraction) → sum_of a b ≡ Some c
+    → (lowest (sum_top a b) (sum_bottom a b) ≡ c) × (narrow (sum_left a b) ≡ true) × (narrow (sum_right a b) ≡ true)
+    × (narrow (sum_top a b) ≡ true) × (narrow (pos (sum_bottom a b)) ≡ true)
 unfolding sum_of
-sum_of-some a b c h = four_held (narrow (sum_left a b)) (narrow (sum_right a b)) (narrow (sum_top a b)) (narrow (pos (sum_bottom a b))) (lowest (sum_top a b) (sum_bottom a b)) c h
+sum_of-some a b c h =
+    four_held (narrow (sum_left a b)) (narrow (sum_right a b)) (narrow (sum_top a b)) (narrow (pos (sum_bottom a b)))
+    (lowest (sum_top a b) (sum_bottom a b)) c h
 
-pub sum_of-none : (a b : Fraction) → sum_of a b ≡ None → (narrow (sum_left a b) ≡ false) ⊎ ((narrow (sum_right a b) ≡ false) ⊎ ((narrow (sum_top a b) ≡ false) ⊎ (narrow (pos (sum_bottom a b)) ≡ false)))
+pub sum_of-none : (a b : Fraction) → sum_of a b ≡ None
+    → (narrow (sum_left a b) ≡ false)
+    ⊎ ((narrow (sum_right a b) ≡ false) ⊎ ((narrow (sum_top a b) ≡ false) ⊎ (narrow (pos (sum_bottom a b)) ≡ false)))
 unfolding sum_of
-sum_of-none a b h = one_of_four (narrow (sum_left a b)) (narrow (sum_right a b)) (narrow (sum_top a b)) (narrow (pos (sum_bottom a b))) (lowest (sum_top a b) (sum_bottom a b)) h
+sum_of-none a b h = one_of_four (narrow (sum_left a b)) (narrow (sum_right a b)) (narrow (sum_top a b))
+    (narrow (pos (sum_bottom a b))) (lowest (sum_top a b) (sum_bottom a b)) h
 
-pub product_of-some : (a b c : Fraction) → product_of a b ≡ Some c → (record { num = product_top a b; den = product_bottom a b } ≡ c) × (narrow (product_top a b) ≡ true) × (narrow (pos (product_bottom a b)) ≡ true)
+pub product_of-some : (a b c : Fraction) → product_of a b ≡ Some c
+    → (record { num = product_top a b; den = product_bottom a b } ≡ c) × (narrow (product_top a b) ≡ true)
+    × (narrow (pos (product_bottom a b)) ≡ true)
 unfolding product_of
-product_of-some a b c h = two_held (narrow (product_top a b)) (narrow (pos (product_bottom a b))) (record { num = product_top a b; den = product_bottom a b }) c h
+product_of-some a b c h =
+    two_held (narrow (product_top a b)) (narrow (pos (product_bottom a b)))
+    (record { num = product_top a b; den = product_bottom a b }) c h
 
-pub product_of-none : (a b : Fraction) → product_of a b ≡ None → (narrow (product_top a b) ≡ false) ⊎ (narrow (pos (product_bottom a b)) ≡ false)
+pub product_of-none : (a b : Fraction) → product_of a b ≡ None
+    → (narrow (product_top a b) ≡ false) ⊎ (narrow (pos (product_bottom a b)) ≡ false)
 unfolding product_of
-product_of-none a b h = one_of_two (narrow (product_top a b)) (narrow (pos (product_bottom a b))) (record { num = product_top a b; den = product_bottom a b }) h
+product_of-none a b h =
+    one_of_two (narrow (product_top a b)) (narrow (pos (product_bottom a b)))
+    (record { num = product_top a b; den = product_bottom a b }) h

@@ -17,7 +17,8 @@ nought = record { num = pos 0; den = 1 }
 -- a reduced fraction with the numerator 0 is 0
 pub nought_from_num : (f : Fraction) → IsReduced f → f.num ≡ pos 0 → f ≡ nought
 nought_from_num f h e =
-    let den : f.den ≡ 1 = sym (gcd-zero f.den) ∙ gcd_comm f.den 0 ∙ ap (λ z. gcd (unsigned_abs z) f.den) (sym e) ∙ h.coprime in
+    let den : f.den ≡ 1 =
+    sym (gcd-zero f.den) ∙ gcd_comm f.den 0 ∙ ap (λ z. gcd (unsigned_abs z) f.den) (sym e) ∙ h.coprime in
     let with_num : ℤ → Fraction = λ z. record { num = z; den = f.den } in
     let with_den : ℕ → Fraction = λ n. record { num = pos 0; den = n } in
     ap with_num e ∙ ap with_den den
@@ -35,7 +36,8 @@ answer_of_product : (a b : Fraction) → product_top a b ≡ pos 0 → product_b
 answer_of_product a b top bottom =
     let num : ℤ → Fraction = λ z. record { num = z; den = product_bottom a b } in
     let den : ℕ → Fraction = λ n. record { num = pos 0; den = n } in
-    product_of-narrow a b (narrow_at top (omega arith)) (narrow_at (ap pos bottom) (omega arith)) ∙ ap Some (ap num top ∙ ap den bottom)
+    product_of-narrow a b (narrow_at top (omega arith)) (narrow_at (ap pos bottom) (omega arith))
+    ∙ ap Some (ap num top ∙ ap den bottom)
 
 int_div-one : (z : ℤ) → int_div z (pos 1) ≡ z
 int_div-one (pos n) = ap pos (div-one n)
@@ -53,18 +55,22 @@ pub product_of-nought_left : (f : Fraction) → IsReduced f → product_of nough
 product_of-nought_left f h =
     let first : int_div (pos 0) (pos (gcd 0 f.den)) ≡ pos 0 = share_of_nought (gcd 0 f.den) in
     let top : product_top nought f ≡ pos 0 =
-    ap (λ z. z *ℤ int_div f.num (pos (gcd (unsigned_abs f.num) 1))) first ∙ zero-*ℤ (int_div f.num (pos (gcd (unsigned_abs f.num) 1))) in
+    ap (λ z. z *ℤ int_div f.num (pos (gcd (unsigned_abs f.num) 1))) first
+    ∙ zero-*ℤ (int_div f.num (pos (gcd (unsigned_abs f.num) 1))) in
     let bottom : product_bottom nought f ≡ 1 =
-    ap (λ g. (1 / g) * (f.den / gcd 0 f.den)) (gcd_one (unsigned_abs f.num)) ∙ ap (λ n. 1 * n) (own_share f.den h.den_positive) in
+    ap (λ g. (1 / g) * (f.den / gcd 0 f.den)) (gcd_one (unsigned_abs f.num))
+    ∙ ap (λ n. 1 * n) (own_share f.den h.den_positive) in
     answer_of_product nought f top bottom
 
 pub product_of-nought_right : (f : Fraction) → IsReduced f → product_of f nought ≡ Some nought
 product_of-nought_right f h =
     let first : int_div (pos 0) (pos (gcd 0 f.den)) ≡ pos 0 = share_of_nought (gcd 0 f.den) in
     let top : product_top f nought ≡ pos 0 =
-    ap (λ z. int_div f.num (pos (gcd (unsigned_abs f.num) 1)) *ℤ z) first ∙ *ℤ-zero (int_div f.num (pos (gcd (unsigned_abs f.num) 1))) in
+    ap (λ z. int_div f.num (pos (gcd (unsigned_abs f.num) 1)) *ℤ z) first
+    ∙ *ℤ-zero (int_div f.num (pos (gcd (unsigned_abs f.num) 1))) in
     let bottom : product_bottom f nought ≡ 1 =
-    ap (λ g. (f.den / gcd 0 f.den) * (1 / g)) (gcd_one (unsigned_abs f.num)) ∙ ap (λ n. n * 1) (own_share f.den h.den_positive) in
+    ap (λ g. (f.den / gcd 0 f.den) * (1 / g)) (gcd_one (unsigned_abs f.num))
+    ∙ ap (λ n. n * 1) (own_share f.den h.den_positive) in
     answer_of_product f nought top bottom
 
 pub quotient_of-nought : (f : Fraction) → IsReduced f → (f.num ≡ pos 0 → ⊥) → quotient_of nought f ≡ Some nought
@@ -78,9 +84,13 @@ difference_of-nought f h =
     let g : gcd f.den 1 ≡ 1 = gcd_one f.den in
     let left : sum_left f nought ≡ f.num = ap (λ n. f.num *ℤ pos (1 / n)) g ∙ *ℤ_one f.num in
     let right : sum_right f nought ≡ pos 0 = zero-*ℤ (pos (f.den / gcd f.den 1)) in
-    let top : sum_top f nought ≡ f.num = ap (λ z. z +ℤ sum_right f nought) left ∙ ap (λ z. f.num +ℤ z) right ∙ +ℤ_idr f.num in
-    let bottom : sum_bottom f nought ≡ f.den = ap (λ n. (f.den / n) * 1) g ∙ ap (λ n. n * 1) (div-one f.den) ∙ mul-one f.den in
-    let value : lowest (sum_top f nought) (sum_bottom f nought) ≡ lowest f.num f.den = ap (λ z. lowest z (sum_bottom f nought)) top ∙ ap (lowest f.num) bottom in
+    let top : sum_top f nought ≡ f.num =
+    ap (λ z. z +ℤ sum_right f nought) left ∙ ap (λ z. f.num +ℤ z) right ∙ +ℤ_idr f.num in
+    let bottom : sum_bottom f nought ≡ f.den =
+    ap (λ n. (f.den / n) * 1) g ∙ ap (λ n. n * 1) (div-one f.den) ∙ mul-one f.den in
+    let value : lowest (sum_top f nought) (sum_bottom f nought) ≡ lowest f.num f.den =
+    ap (λ z. lowest z (sum_bottom f nought)) top ∙ ap (lowest f.num) bottom in
     sum_of-narrow f nought
-    (narrow_at left h.num_narrow) (narrow_at right (omega arith)) (narrow_at top h.num_narrow) (narrow_at (ap pos bottom) h.den_narrow)
+    (narrow_at left h.num_narrow) (narrow_at right (omega arith)) (narrow_at top h.num_narrow)
+    (narrow_at (ap pos bottom) h.den_narrow)
     ∙ ap Some (value ∙ lowest_of_reduced f h)

@@ -1,4 +1,5 @@
--- Trusted: what the arithmetic means over the rational numbers, as equations of whole numbers of any size, and what a greatest common
+-- Trusted: what the arithmetic means over the rational numbers, as equations of whole numbers of any size, and what a
+-- greatest common
 -- divisor and a least common multiple are.
 use Rattle.std.specs.Prelude.{◌≡◌, ◌≢◌, ℕ, ◌*◌, ◌^◌, ◌≤◌, ◌↔◌, ◌⊎◌, Option, Some, None, ℤ, pos, ◌+ℤ◌, ◌-ℤ◌, ◌*ℤ◌, unsigned_abs}
 use Rattle.std.specs.Int.{◌∣◌}
@@ -48,7 +49,8 @@ FailsWhere operation P = (a b : Fraction) → (operation a b ≡ None) ↔ P a b
 -- the same of the quotient, by a fraction other than 0
 abbrev pub QuotientGives : Type 0
 QuotientGives =
-    (a b c : Fraction) → IsReduced a → IsReduced b → b.num ≢ pos 0 → quotient_of a b ≡ Some c → IsQuotient a b c × IsReduced c
+    (a b c : Fraction) → IsReduced a → IsReduced b → b.num ≢ pos 0 → quotient_of a b ≡ Some c
+    → IsQuotient a b c × IsReduced c
 
 -- the greatest common divisor divides both numbers, and every common divisor divides it
 pub record IsDivisor (a b : ℕ) : Type 0 where

@@ -26,7 +26,8 @@ capped-power number a b ha hb =
           rw zero (omega arith)
     ]
 
-pub capped-power-more : (number power : ℕ) → min (capped (number * 10 ^ power) * 10) (MAX_WHOLE + 1) ≡ capped (number * 10 ^ (power + 1))
+pub capped-power-more : (number power : ℕ)
+    → min (capped (number * 10 ^ power) * 10) (MAX_WHOLE + 1) ≡ capped (number * 10 ^ (power + 1))
 capped-power-more number power =
     let more : 10 ^ (power + 1) ≡ 10 ^ power * 10 = rw add-one (pow-suc 10 power) in
     omega (arith, ap (λ (p : ℕ). number * p) more)
@@ -44,7 +45,8 @@ capped-times number power =
           rw same refl
     ]
 
-pub capped-after : (digits : List ℕ) (number : ℕ) → capped (digits_value_after 10 (capped number) digits) ≡ capped (digits_value_after 10 number digits)
+pub capped-after : (digits : List ℕ) (number : ℕ)
+    → capped (digits_value_after 10 (capped number) digits) ≡ capped (digits_value_after 10 number digits)
 capped-after [] number = omega arith
 capped-after (d ∷ ds) number =
     let v = digit_value d in
@@ -52,7 +54,8 @@ capped-after (d ∷ ds) number =
     ∙ ap (λ (n : ℕ). capped (digits_value_after 10 n ds)) (capped-digit number v)
     ∙ capped-after ds (number * 10 + v)
 
-pub capped-power-end : (number power steps : ℕ) → steps ≡ min power 37 → capped (number * 10 ^ steps) ≡ capped (number * 10 ^ power)
+pub capped-power-end : (number power steps : ℕ) → steps ≡ min power 37
+    → capped (number * 10 ^ steps) ≡ capped (number * 10 ^ power)
 capped-power-end number power steps e =
     elim (cases_lt 37 power) [
       | inl past ↦ capped-power number steps power (omega arith) (omega arith)

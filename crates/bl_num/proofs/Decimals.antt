@@ -24,27 +24,34 @@ pub AllDigits-append : (front back : List ℕ) → AllDigits 10 front → AllDig
 AllDigits-append [] back f b = b
 AllDigits-append (d ∷ ds) back f b = (f.0, AllDigits-append ds back f.1 b)
 
-pub after-append : (n : ℕ) (front back : List ℕ) → digits_value_after 10 n (front ++ back) ≡ digits_value_after 10 (digits_value_after 10 n front) back
+pub after-append : (n : ℕ) (front back : List ℕ)
+    → digits_value_after 10 n (front ++ back) ≡ digits_value_after 10 (digits_value_after 10 n front) back
 after-append n [] back = refl
 after-append n (d ∷ ds) back = after-append (n * 10 + digit_value d) ds back
 
 -- one more digit
-pub after-more : (n : ℕ) (digits : List ℕ) (i : ℕ) → i < length digits → digits_value_after 10 n (take (i + 1) digits) ≡ digits_value_after 10 n (take i digits) * 10 + digit_value (get_or digits i 0)
+pub after-more : (n : ℕ) (digits : List ℕ) (i : ℕ) → i < length digits
+    → digits_value_after 10 n (take (i + 1) digits) ≡ digits_value_after 10 n (take i digits) * 10
+    + digit_value (get_or digits i 0)
 after-more n digits i h =
     ap (digits_value_after 10 n) (take_more digits i 0 h) ∙ after-append n (take i digits) (get_or digits i 0 ∷ [])
 
-regroup : (n digit power rest : ℕ) → (n * 10 + digit) * power + rest ≡ n * (power * 10) + ((0 * 10 + digit) * power + rest)
+regroup : (n digit power rest : ℕ)
+    → (n * 10 + digit) * power + rest ≡ n * (power * 10) + ((0 * 10 + digit) * power + rest)
 regroup n digit power rest = omega arith
 
-pub after-value : (digits : List ℕ) (n : ℕ) → digits_value_after 10 n digits ≡ n * 10 ^ length digits + digits_value 10 digits
+pub after-value : (digits : List ℕ) (n : ℕ)
+    → digits_value_after 10 n digits ≡ n * 10 ^ length digits + digits_value 10 digits
 after-value [] n = omega arith
 after-value (d ∷ ds) n =
     after-value ds (n * 10 + digit_value d)
     ∙ regroup n (digit_value d) (10 ^ length ds) (digits_value 10 ds)
-    ∙ ap (λ (big : ℕ). n * big + ((0 * 10 + digit_value d) * 10 ^ length ds + digits_value 10 ds)) (sym (pow-suc 10 (length ds)))
+    ∙ ap (λ (big : ℕ). n * big + ((0 * 10 + digit_value d) * 10 ^ length ds + digits_value 10 ds))
+    (sym (pow-suc 10 (length ds)))
     ∙ ap (λ (rest : ℕ). n * 10 ^ suc (length ds) + rest) (sym (after-value ds (0 * 10 + digit_value d)))
 
-pub value-append : (front back : List ℕ) → digits_value 10 (front ++ back) ≡ digits_value 10 front * 10 ^ length back + digits_value 10 back
+pub value-append : (front back : List ℕ)
+    → digits_value 10 (front ++ back) ≡ digits_value 10 front * 10 ^ length back + digits_value 10 back
 value-append front back = after-append 0 front back ∙ after-value back (digits_value 10 front)
 
 abbrev pub is_zero : ℕ → Bool
@@ -72,7 +79,8 @@ zeros-value (d ∷ ds) h =
     let digit : digit_value d ≡ 0 = ap digit_value (eqb-true d 48 both.0) in
     omega (arith, value-cons d ds, ap (λ (v : ℕ). v * 10 ^ length ds) digit, zeros-value ds both.1)
 
-nonzeros-step : (d : ℕ) (ds : List ℕ) → AllDigits 10 (d ∷ ds) → list_all is_zero (d ∷ ds) ≡ false → (zero_first : Bool) → is_zero d ≡ zero_first → (list_all is_zero ds ≡ false → 0 < digits_value 10 ds) → 0 < digits_value 10 (d ∷ ds)
+nonzeros-step : (d : ℕ) (ds : List ℕ) → AllDigits 10 (d ∷ ds) → list_all is_zero (d ∷ ds) ≡ false → (zero_first : Bool)
+    → is_zero d ≡ zero_first → (list_all is_zero ds ≡ false → 0 < digits_value 10 ds) → 0 < digits_value 10 (d ∷ ds)
 nonzeros-step d ds all h false e more = nonzeros-first d ds all e
 nonzeros-step d ds all h true e more =
     let rest : list_all is_zero ds ≡ false = and_true_false (is_zero d) (list_all is_zero ds) e h in

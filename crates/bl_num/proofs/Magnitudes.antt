@@ -17,7 +17,8 @@ pub record HasDigits (parts : Parts) : Type 0 where
   pub fraction_digits : AllDigits 10 parts.fraction
   pub power_digits : AllDigits 10 (without_leading_sign parts.exponent)
 
-digits-append : (front back : List ℕ) → are_digits (front ++ back) ≡ true → (are_digits front ≡ true) × (are_digits back ≡ true)
+digits-append : (front back : List ℕ) → are_digits (front ++ back) ≡ true
+    → (are_digits front ≡ true) × (are_digits back ≡ true)
 digits-append [] back h = (refl, h)
 digits-append (d ∷ ds) back h =
     let both = and_true (is_ascii_digit d) (are_digits (ds ++ back)) h in
@@ -27,9 +28,12 @@ digits-append (d ∷ ds) back h =
 pub has_digits : (parts : Parts) → is_number parts ≡ true → HasDigits parts
 unfolding is_number
 has_digits parts h =
-    let both = and_true (is_numeral (parts.whole ++ parts.fraction)) (is_numeral (without_leading_sign parts.exponent)) h in
-    let front = and_true (are_digits (parts.whole ++ parts.fraction)) (ltb 0 (length (parts.whole ++ parts.fraction))) both.0 in
-    let power = and_true (are_digits (without_leading_sign parts.exponent)) (ltb 0 (length (without_leading_sign parts.exponent))) both.1 in
+    let both = and_true (is_numeral (parts.whole ++ parts.fraction))
+    (is_numeral (without_leading_sign parts.exponent)) h in
+    let front = and_true (are_digits (parts.whole ++ parts.fraction))
+    (ltb 0 (length (parts.whole ++ parts.fraction))) both.0 in
+    let power = and_true (are_digits (without_leading_sign parts.exponent))
+    (ltb 0 (length (without_leading_sign parts.exponent))) both.1 in
     let each = digits-append parts.whole parts.fraction front.0 in
     record {
       whole_digits = AllDigits-from_test parts.whole each.0;
@@ -43,15 +47,20 @@ times_one n = omega arith
 plus_none : (n : ℕ) → n ≡ n + 0
 plus_none n = omega arith
 
-pub magnitude-lowered : (parts : Parts) → starts_with_minus parts.exponent ≡ true → lowered_magnitude parts.whole parts.fraction (power_of parts) ≡ magnitude_of parts
+pub magnitude-lowered : (parts : Parts) → starts_with_minus parts.exponent ≡ true
+    → lowered_magnitude parts.whole parts.fraction (power_of parts) ≡ magnitude_of parts
 unfolding magnitude_of lowered_magnitude
 magnitude-lowered parts e =
-    rw e (ap (λ (n : ℕ). exact_quotient n (10 ^ (length parts.fraction + digits_value 10 (drop 1 parts.exponent)))) (times_one (coefficient_of parts)))
+    rw e (ap (λ (n : ℕ). exact_quotient n (10 ^ (length parts.fraction + digits_value 10 (drop 1 parts.exponent))))
+    (times_one (coefficient_of parts)))
 
-pub magnitude-raised : (parts : Parts) → starts_with_minus parts.exponent ≡ false → raised_magnitude parts.whole parts.fraction (power_of parts) ≡ magnitude_of parts
+pub magnitude-raised : (parts : Parts) → starts_with_minus parts.exponent ≡ false
+    → raised_magnitude parts.whole parts.fraction (power_of parts) ≡ magnitude_of parts
 unfolding magnitude_of raised_magnitude
 magnitude-raised parts e =
-    rw e (ap (λ (k : ℕ). exact_quotient (coefficient_of parts * 10 ^ digits_value 10 (without_leading_plus parts.exponent)) (10 ^ k)) (plus_none (length parts.fraction)))
+    rw e (ap (λ (k : ℕ). exact_quotient
+    (coefficient_of parts * 10 ^ digits_value 10 (without_leading_plus parts.exponent)) (10 ^ k))
+    (plus_none (length parts.fraction)))
 
 nat_le_false : (n : ℕ) → MAX_WHOLE < n → leb n MAX_WHOLE ≡ false
 nat_le_false n h = grind (arith, nat_tests)
@@ -67,6 +76,7 @@ limited-some negative number =
     ]
 
 -- the limit is told apart behind the cut too
-pub limited-capped : (negative : Bool) (magnitude : Option ℕ) → limited negative (option_map capped magnitude) ≡ limited negative magnitude
+pub limited-capped : (negative : Bool) (magnitude : Option ℕ)
+    → limited negative (option_map capped magnitude) ≡ limited negative magnitude
 limited-capped negative None = refl
 limited-capped negative (Some number) = limited-some negative number

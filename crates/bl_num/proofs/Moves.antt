@@ -13,7 +13,8 @@ use Rattle.bl_num.proofs.Capping.{capped-power}
 use Rattle.bl_num.proofs.Decimals.{AllDigits-drop, value-append, zeros-value, nonzeros-value}
 use Rattle.bl_num.proofs.Points.{lowered-within, lowered-past, raised-within, raised-past}
 
--- the digits in front of the point's new place and those behind it, where it moves by a power that is cut off at the limit
+-- the digits in front of the point's new place and those behind it, where it moves by a power that is cut off at the
+-- limit
 pub record AreCut (digits front back : List ℕ) (place : ℕ) : Type 0 where
   pub front_is : front ≡ take place digits
   pub back_is : back ≡ drop place digits
@@ -21,7 +22,11 @@ pub record AreCut (digits front back : List ℕ) (place : ℕ) : Type 0 where
 joined : (digits front back : List ℕ) (place : ℕ) → AreCut digits front back place → front ++ back ≡ digits
 joined digits front back place cut = rw (cut.front_is, cut.back_is) (take-append-drop place digits)
 
-pub lowered-cut : (whole fraction front back : List ℕ) (power most moved : ℕ) → AllDigits 10 whole → AllDigits 10 fraction → length whole < 2 ^ 64 → most ≡ capped power → moved ≡ min most (length whole) → AreCut whole front back (length whole - moved) → lowered_magnitude whole fraction power ≡ cond (eqb (digits_value 10 (back ++ fraction)) 0) (Some (digits_value 10 front)) None
+pub lowered-cut : (whole fraction front back : List ℕ) (power most moved : ℕ) → AllDigits 10 whole
+    → AllDigits 10 fraction → length whole < 2 ^ 64 → most ≡ capped power → moved ≡ min most (length whole)
+    → AreCut whole front back (length whole - moved)
+    → lowered_magnitude whole fraction power
+    ≡ cond (eqb (digits_value 10 (back ++ fraction)) 0) (Some (digits_value 10 front)) None
 lowered-cut whole fraction front back power most moved w f few m v cut =
     elim (cases_lt (length whole) power) [
       | inl past ↦
@@ -31,7 +36,8 @@ lowered-cut whole fraction front back power most moved w f few m v cut =
           rw (front_none, back_all) (lowered-past whole fraction power w f (omega arith))
       | inr within ↦
           let digits : AllDigits 10 back = rw (cut.back_is) (AllDigits-drop (length whole - moved) whole w) in
-          let size : length back ≡ power = ap length cut.back_is ∙ omega (arith, length-drop (length whole - moved) whole) in
+          let size : length back ≡ power =
+          ap length cut.back_is ∙ omega (arith, length-drop (length whole - moved) whole) in
           ap (λ (ds : List ℕ). lowered_magnitude ds fraction power) (sym (joined whole front back _ cut))
           ∙ lowered-within front back fraction power digits f size
     ]
@@ -54,19 +60,25 @@ eqb-times n power one false e =
 abbrev pub read_if : Bool → ℕ → Option ℕ
 read_if zeros number = cond zeros (Some (capped number)) None
 
-capped-read : (zeros : Bool) (number same : ℕ) → capped number ≡ capped same → option_map capped (cond zeros (Some number) None) ≡ read_if zeros same
+capped-read : (zeros : Bool) (number same : ℕ) → capped number ≡ capped same
+    → option_map capped (cond zeros (Some number) None) ≡ read_if zeros same
 capped-read true number same e = ap (λ (n : ℕ). Some n) e
 capped-read false number same e = refl
 
 -- past the fraction the cut power gives the same
-past-power : (number power most places : ℕ) → places < 2 ^ 64 → places < power → most ≡ capped power → capped (number * 10 ^ (power - places)) ≡ capped (number * 10 ^ (most - places))
+past-power : (number power most places : ℕ) → places < 2 ^ 64 → places < power → most ≡ capped power
+    → capped (number * 10 ^ (power - places)) ≡ capped (number * 10 ^ (most - places))
 past-power number power most places few past m =
     elim (cases_lt most power) [
       | inl cut ↦ capped-power number (power - places) (most - places) (omega arith) (omega arith)
       | inr whole ↦ ap (λ (k : ℕ). capped (number * 10 ^ (k - places))) (omega arith)
     ]
 
-pub raised-cut : (whole fraction front back : List ℕ) (power most moved : ℕ) → AllDigits 10 fraction → length fraction < 2 ^ 64 → most ≡ capped power → moved ≡ min most (length fraction) → AreCut fraction front back moved → option_map capped (raised_magnitude whole fraction power) ≡ read_if (eqb (digits_value 10 back) 0) (digits_value 10 (whole ++ front) * 10 ^ (most - moved))
+pub raised-cut : (whole fraction front back : List ℕ) (power most moved : ℕ) → AllDigits 10 fraction
+    → length fraction < 2 ^ 64 → most ≡ capped power → moved ≡ min most (length fraction)
+    → AreCut fraction front back moved
+    → option_map capped (raised_magnitude whole fraction power)
+    ≡ read_if (eqb (digits_value 10 back) 0) (digits_value 10 (whole ++ front) * 10 ^ (most - moved))
 raised-cut whole fraction front back power most moved f few m v cut =
     elim (cases_lt (length fraction) power) [
       | inl past ↦
@@ -74,24 +86,34 @@ raised-cut whole fraction front back power most moved f few m v cut =
           let front_all : front ≡ fraction = cut.front_is ∙ take_all moved fraction (omega arith) in
           let back_none : back ≡ [] = cut.back_is ∙ drop_all moved fraction (omega arith) in
           ap (option_map capped) (raised-past whole fraction power (omega arith))
-          ∙ ap (λ (n : ℕ). Some n) (past-power (digits_value 10 (whole ++ fraction)) power most (length fraction) few (omega arith) m)
+          ∙ ap (λ (n : ℕ). Some n)
+          (past-power (digits_value 10 (whole ++ fraction)) power most (length fraction) few (omega arith) m)
           ∙ rw (front_all, back_none, all) refl
       | inr within ↦
           let digits : AllDigits 10 back = rw (cut.back_is) (AllDigits-drop moved fraction f) in
           let size : length front ≡ power = ap length cut.front_is ∙ omega (arith, length-take moved fraction) in
           let one = one-le-pow power 10 (omega arith) in
           let none : most - moved ≡ 0 = omega arith in
-          ap (λ (ds : List ℕ). option_map capped (raised_magnitude whole ds power)) (sym (joined fraction front back _ cut))
+          ap (λ (ds : List ℕ). option_map capped (raised_magnitude whole ds power))
+          (sym (joined fraction front back _ cut))
           ∙ ap (option_map capped) (raised-within whole front back power digits size)
-          ∙ ap (λ (b : Bool). option_map capped (cond b (Some (digits_value 10 (whole ++ front))) None)) (eqb-times (digits_value 10 back) (10 ^ power) one (eqb (digits_value 10 back) 0) refl)
+          ∙ ap (λ (b : Bool). option_map capped (cond b (Some (digits_value 10 (whole ++ front))) None))
+          (eqb-times (digits_value 10 back) (10 ^ power) one (eqb (digits_value 10 back) 0) refl)
           ∙ capped-read (eqb (digits_value 10 back) 0) (digits_value 10 (whole ++ front)) _ (rw none (omega arith))
     ]
 
-zeros-both : (back fraction : List ℕ) → are_zeros back ≡ true → are_zeros fraction ≡ true → digits_value 10 (back ++ fraction) ≡ 0
+zeros-both : (back fraction : List ℕ) → are_zeros back ≡ true → are_zeros fraction ≡ true
+    → digits_value 10 (back ++ fraction) ≡ 0
 zeros-both back fraction b f =
-    omega (arith, value-append back fraction, ap (λ (n : ℕ). n * 10 ^ length fraction) (zeros-value back b), zeros-value fraction f)
+    omega (
+      arith,
+      value-append back fraction,
+      ap (λ (n : ℕ). n * 10 ^ length fraction) (zeros-value back b),
+      zeros-value fraction f,
+    )
 
-nonzeros-either : (back fraction : List ℕ) → AllDigits 10 back → AllDigits 10 fraction → (are_zeros back ≡ false) ⊎ (are_zeros fraction ≡ false) → 0 < digits_value 10 (back ++ fraction)
+nonzeros-either : (back fraction : List ℕ) → AllDigits 10 back → AllDigits 10 fraction
+    → (are_zeros back ≡ false) ⊎ (are_zeros fraction ≡ false) → 0 < digits_value 10 (back ++ fraction)
 nonzeros-either back fraction b f (inl e) =
     let some = nonzeros-value back b e in
     let one = one-le-pow (length fraction) 10 (omega arith) in
@@ -99,24 +121,39 @@ nonzeros-either back fraction b f (inl e) =
     omega (arith, value-append back fraction, product)
 nonzeros-either back fraction b f (inr e) = omega (arith, value-append back fraction, nonzeros-value fraction f e)
 
-pub lowered-zeros : (whole fraction front back : List ℕ) (power most moved : ℕ) → AllDigits 10 whole → AllDigits 10 fraction → length whole < 2 ^ 64 → most ≡ capped power → moved ≡ min most (length whole) → AreCut whole front back (length whole - moved) → are_zeros back ≡ true → are_zeros fraction ≡ true → Some (capped (digits_value 10 front)) ≡ option_map capped (lowered_magnitude whole fraction power)
+pub lowered-zeros : (whole fraction front back : List ℕ) (power most moved : ℕ) → AllDigits 10 whole
+    → AllDigits 10 fraction → length whole < 2 ^ 64 → most ≡ capped power → moved ≡ min most (length whole)
+    → AreCut whole front back (length whole - moved) → are_zeros back ≡ true → are_zeros fraction ≡ true
+    → Some (capped (digits_value 10 front)) ≡ option_map capped (lowered_magnitude whole fraction power)
 lowered-zeros whole fraction front back power most moved w f few m v cut b z =
     sym (ap (option_map capped) (lowered-cut whole fraction front back power most moved w f few m v cut
     ∙ ap (λ (n : ℕ). cond (eqb n 0) (Some (digits_value 10 front)) None) (zeros-both back fraction b z)))
 
-pub lowered-rest : (whole fraction front back : List ℕ) (power most moved : ℕ) → AllDigits 10 whole → AllDigits 10 fraction → length whole < 2 ^ 64 → most ≡ capped power → moved ≡ min most (length whole) → AreCut whole front back (length whole - moved) → (are_zeros back ≡ false) ⊎ (are_zeros fraction ≡ false) → None ≡ option_map capped (lowered_magnitude whole fraction power)
+pub lowered-rest : (whole fraction front back : List ℕ) (power most moved : ℕ) → AllDigits 10 whole
+    → AllDigits 10 fraction → length whole < 2 ^ 64 → most ≡ capped power → moved ≡ min most (length whole)
+    → AreCut whole front back (length whole - moved) → (are_zeros back ≡ false) ⊎ (are_zeros fraction ≡ false)
+    → None ≡ option_map capped (lowered_magnitude whole fraction power)
 lowered-rest whole fraction front back power most moved w f few m v cut rest =
     let digits : AllDigits 10 back = rw (cut.back_is) (AllDigits-drop (length whole - moved) whole w) in
     sym (ap (option_map capped) (lowered-cut whole fraction front back power most moved w f few m v cut
-    ∙ ap (λ (b : Bool). cond b (Some (digits_value 10 front)) None) (positive-eqb _ (nonzeros-either back fraction digits f rest))))
+    ∙ ap (λ (b : Bool). cond b (Some (digits_value 10 front)) None)
+    (positive-eqb _ (nonzeros-either back fraction digits f rest))))
 
-pub raised-zeros : (whole fraction front back : List ℕ) (power most moved : ℕ) → AllDigits 10 fraction → length fraction < 2 ^ 64 → most ≡ capped power → moved ≡ min most (length fraction) → AreCut fraction front back moved → are_zeros back ≡ true → Some (capped (digits_value 10 (whole ++ front) * 10 ^ (most - moved))) ≡ option_map capped (raised_magnitude whole fraction power)
+pub raised-zeros : (whole fraction front back : List ℕ) (power most moved : ℕ) → AllDigits 10 fraction
+    → length fraction < 2 ^ 64 → most ≡ capped power → moved ≡ min most (length fraction)
+    → AreCut fraction front back moved → are_zeros back ≡ true
+    → Some (capped (digits_value 10 (whole ++ front) * 10 ^ (most - moved)))
+    ≡ option_map capped (raised_magnitude whole fraction power)
 raised-zeros whole fraction front back power most moved f few m v cut z =
     sym (raised-cut whole fraction front back power most moved f few m v cut
     ∙ ap (λ (n : ℕ). read_if (eqb n 0) (digits_value 10 (whole ++ front) * 10 ^ (most - moved))) (zeros-value back z))
 
-pub raised-rest : (whole fraction front back : List ℕ) (power most moved : ℕ) → AllDigits 10 fraction → length fraction < 2 ^ 64 → most ≡ capped power → moved ≡ min most (length fraction) → AreCut fraction front back moved → are_zeros back ≡ false → None ≡ option_map capped (raised_magnitude whole fraction power)
+pub raised-rest : (whole fraction front back : List ℕ) (power most moved : ℕ) → AllDigits 10 fraction
+    → length fraction < 2 ^ 64 → most ≡ capped power → moved ≡ min most (length fraction)
+    → AreCut fraction front back moved → are_zeros back ≡ false
+    → None ≡ option_map capped (raised_magnitude whole fraction power)
 raised-rest whole fraction front back power most moved f few m v cut z =
     let digits : AllDigits 10 back = rw (cut.back_is) (AllDigits-drop moved fraction f) in
     sym (raised-cut whole fraction front back power most moved f few m v cut
-    ∙ ap (λ (b : Bool). read_if b (digits_value 10 (whole ++ front) * 10 ^ (most - moved))) (positive-eqb _ (nonzeros-value back digits z)))
+    ∙ ap (λ (b : Bool). read_if b (digits_value 10 (whole ++ front) * 10 ^ (most - moved)))
+    (positive-eqb _ (nonzeros-value back digits z)))

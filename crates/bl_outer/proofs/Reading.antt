@@ -26,7 +26,8 @@ module _ (bytes text given : List ℕ) (n : ℕ) where
   pub length_more : n ≤ length given → length (text ++ take n given) ≡ length text + n
   length_more fits = simp (length-append, length-take) (omega arith)
 
-  more_bytes : n ≤ length given → take (length text) bytes ≡ text → take n given ≡ take n (drop (length text) bytes) → take (length (text ++ take n given)) bytes ≡ text ++ take n given
+  more_bytes : n ≤ length given → take (length text) bytes ≡ text → take n given ≡ take n (drop (length text) bytes)
+      → take (length (text ++ take n given)) bytes ≡ text ++ take n given
   more_bytes fits front next =
       ap (λ k. take k bytes) (length_more fits) ∙ take-add (length text) n bytes ∙ rw (front, next) refl
 
@@ -35,21 +36,26 @@ module _ (bytes text given : List ℕ) (n : ℕ) where
 
   length_next : n ≤ length given → take n given ≡ take n (drop (length text) bytes) → n ≤ length bytes - length text
   length_next fits next =
-      let e : min n (length given) ≡ min n (length bytes - length text) = simp (length-take, length-drop) at (ap length next) in
+      let e : min n (length given) ≡ min n (length bytes - length text) =
+      simp (length-take, length-drop) at (ap length next) in
       omega arith
 
-  cut_bytes : (limit : ℕ) → length text ≤ limit → limit - length text < n → n ≤ length given → take (length text) bytes ≡ text → take n given ≡ take n (drop (length text) bytes)
+  cut_bytes : (limit : ℕ) → length text ≤ limit → limit - length text < n → n ≤ length given
+      → take (length text) bytes ≡ text → take n given ≡ take n (drop (length text) bytes)
       → (limit < length bytes) × (text ++ take (limit - length text) given ≡ take limit bytes)
   cut_bytes limit within past fits front next =
       let left : ℕ = limit - length text in
       let few : left ≤ n = omega arith in
       let far = length_next fits next in
-      let same : take left given ≡ take left (drop (length text) bytes) = sym (take-take left n given few) ∙ ap (take left) next ∙ take-take left n _ few in
+      let same : take left given ≡ take left (drop (length text) bytes) =
+      sym (take-take left n given few) ∙ ap (take left) next ∙ take-take left n _ few in
       let sum : limit ≡ length text + left = omega arith in
       (omega arith, sym (ap (λ k. take k bytes) sum ∙ take-add (length text) left bytes ∙ rw (front, same) refl))
 
 -- the place has moved by what was given
-pub mode_more : (new mode : Mode) (name : List ℕ) (place n after : ℕ) → new ≡ Reading (chosen_name mode) (chosen_place mode + n) → mode ≡ Reading name place → after ≡ place + n → new ≡ Reading name after
+pub mode_more : (new mode : Mode) (name : List ℕ) (place n after : ℕ)
+    → new ≡ Reading (chosen_name mode) (chosen_place mode + n) → mode ≡ Reading name place → after ≡ place + n
+    → new ≡ Reading name after
 mode_more new mode name place n after moved at sum =
     moved ∙ ap (λ m. Reading (chosen_name m) (chosen_place m + n)) at ∙ ap (Reading name) (sym sum)
 
@@ -58,35 +64,52 @@ pub none_read : (told : Option Files) (name text : List ℕ) → text ≡ [] →
 none_read None name text e = tt
 none_read (Some files) name text e = record { front = rw e refl }
 
-pub front_read : (told : Option Files) (name text : List ℕ) → IfTold told (HasRead name text) → IfTold told (λ files. IsPrefix text (bytes_of files name))
+pub front_read : (told : Option Files) (name text : List ℕ) → IfTold told (HasRead name text)
+    → IfTold told (λ files. IsPrefix text (bytes_of files name))
 front_read None name text h = tt
-front_read (Some files) name text h = (drop (length text) (bytes_of files name), sym (take-append-drop (length text) (bytes_of files name)) ∙ ap (λ front. front ++ drop (length text) (bytes_of files name)) h.front)
+front_read (Some files) name text h = (
+  drop (length text) (bytes_of files name),
+  sym (take-append-drop (length text) (bytes_of files name))
+      ∙ ap (λ front. front ++ drop (length text) (bytes_of files name)) h.front,
+)
 
 -- what a failure answers
-pub failed_read : (told : Option Files) (name text : List ℕ) (limit : ℕ) (result : Result Got ReadFail) (Q : ReadFail → Type 0)
+pub failed_read : (told : Option Files) (name text : List ℕ) (limit : ℕ) (result : Result Got ReadFail)
+    (Q : ReadFail → Type 0)
     → IsErrAnd result Q → IfTold told (HasRead name text) → IfTold told (IsRead result name limit text)
 failed_read told name text limit result Q is h =
     let p = err_from_is_err_and result is in
     subst (λ r. IfTold told (IsRead r name limit text)) (sym p.1) (front_read told name text h)
 
-module _ (name text given : List ℕ) (n : ℕ) (mode : Mode) (at : mode ≡ Reading name (length text)) (fits : n ≤ length given) where
-  pub more_read : (told : Option Files) → IfTold told (HasRead name text) → IfTold told (GivesNext mode n given) → IfTold told (HasRead name (text ++ take n given))
+module _ (name text given : List ℕ) (n : ℕ) (mode : Mode) (at : mode ≡ Reading name (length text))
+    (fits : n ≤ length given) where
+  pub more_read : (told : Option Files) → IfTold told (HasRead name text) → IfTold told (GivesNext mode n given)
+      → IfTold told (HasRead name (text ++ take n given))
   more_read None h next = tt
   more_read (Some files) h next =
       let gives = subst (λ m. GivesNext m n given files) at next in
       record { front = more_bytes (bytes_of files name) text given n fits h.front gives.0 }
 
-  pub whole_read : (told : Option Files) → n ≡ 0 → IfTold told (λ files. IsPresent files name) → IfTold told (HasRead name text) → IfTold told (GivesNext mode n given)
+  pub whole_read : (told : Option Files) → n ≡ 0 → IfTold told (λ files. IsPresent files name)
+      → IfTold told (HasRead name text) → IfTold told (GivesNext mode n given)
       → IfTold told (λ files. Holds files name text)
   whole_read None none there h next = tt
   whole_read (Some files) none there h next =
       let gives = subst (λ m. GivesNext m n given files) at next in
       held (get files name) text there (whole_bytes (bytes_of files name) text given n h.front (gives.1 none))
 
-  pub cut_read : (told : Option Files) (limit : ℕ) → length text ≤ limit → limit - length text < n → IfTold told (λ files. IsPresent files name) → IfTold told (HasRead name text)
-      → IfTold told (GivesNext mode n given) → IfTold told (IsTruncated name limit (text ++ take (limit - length text) given))
+  pub cut_read : (told : Option Files) (limit : ℕ) → length text ≤ limit → limit - length text < n
+      → IfTold told (λ files. IsPresent files name) → IfTold told (HasRead name text)
+      → IfTold told (GivesNext mode n given)
+      → IfTold told (IsTruncated name limit (text ++ take (limit - length text) given))
   cut_read None limit within past there h next = tt
   cut_read (Some files) limit within past there h next =
       let gives = subst (λ m. GivesNext m n given files) at next in
       let cut = cut_bytes (bytes_of files name) text given n limit within past fits h.front gives.0 in
-      record { bytes = bytes_of files name; held = held (get files name) (bytes_of files name) there refl; longer = cut.0; front = cut.1 }
+      record {
+        bytes = bytes_of files name;
+        held = held (get files name) (bytes_of files name) there refl;
+        longer =
+            cut.0;
+        front = cut.1;
+      }

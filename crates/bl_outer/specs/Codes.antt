@@ -27,11 +27,13 @@ mode_back (Reading name place) = refl
 mode_back (Writing name) = refl
 
 abbrev pub mode_code : Coded Mode
-mode_code = code_by (Option (List ℕ × Option ℕ)) (coded_option (coded× (coded_list coded_ℕ) (coded_option coded_ℕ))) chosen_part mode_from mode_back
+mode_code = code_by (Option (List ℕ × Option ℕ))
+    (coded_option (coded× (coded_list coded_ℕ) (coded_option coded_ℕ))) chosen_part mode_from mode_back
 
 -- a record as the tuple of its fields
 abbrev pub plan_code : Coded Plan
-plan_code = code_by (List ℕ × ℕ) (coded× (coded_list coded_ℕ) coded_ℕ) (λ p. (p.fails, p.calls)) (λ q. record { fails = q.0; calls = q.1 }) (λ _. refl)
+plan_code = code_by (List ℕ × ℕ) (coded× (coded_list coded_ℕ) coded_ℕ) (λ p. (p.fails, p.calls))
+    (λ q. record { fails = q.0; calls = q.1 }) (λ _. refl)
 
 abbrev pub shelf_code : Coded MemShelfState
 shelf_code =

@@ -13,8 +13,10 @@ pub data Mode : Type 0 where
   Reading : List ℕ → ℕ → Mode
   Writing : List ℕ → Mode
 
--- What a shelf tells: its files, the chosen one, how many calls of `find` and `next` failed, how many of `begin`, `append`
--- and `finish`, how many of `find` answered Missing, and on which file the last `find` or `next` that failed was called.
+-- What a shelf tells: its files, the chosen one, how many calls of `find` and `next` failed, how many of `begin`,
+-- `append`
+-- and `finish`, how many of `find` answered Missing, and on which file the last `find` or `next` that failed was
+-- called.
 -- The files and that name are None where the shelf doesn't tell them.
 pub record ShelfState : Type 0 where
   pub contents : Option Files
@@ -87,7 +89,8 @@ pub record OnlyWrites (old new : ShelfState) : Type 0 where
   pub misses : new.misses ≡ old.misses
   pub faulted : new.faulted ≡ old.faulted
 
--- reading the file of this name failed: that was counted, and where the shelf tells the name that failed last, it is this
+-- reading the file of this name failed: that was counted, and where the shelf tells the name that failed last, it is
+-- this
 pub record FaultsOn (name : List ℕ) (old new : ShelfState) : Type 0 where
   pub counted : Grew old.read_faults new.read_faults
   pub named : IfTold new.faulted (λ faulted. faulted ≡ name)

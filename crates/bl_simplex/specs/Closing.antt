@@ -1,4 +1,5 @@
--- Trusted: when a dictionary closes the box, and the dual multipliers that it gives: a row shows that no point of the box meets
+-- Trusted: when a dictionary closes the box, and the dual multipliers that it gives: a row shows that no point of the
+-- box meets
 -- the rows (Farkas 1902), or the cost row that none is below the cutoff.
 use Rattle.std.specs.Prelude.{ℕ, zero, suc, ◌+◌, ◌<◌, ◌⊎◌, ◌==◌, if◌then◌else◌, Option, Some, None, unwrap_or, option_map, ℤ, pos, ◌-ℤ◌, ◌*ℤ◌, ◌≤ℤ◌, ◌<ℤ◌, unsigned_abs, length}
 use Rattle.bl_limits.specs.declared.TheConstants.{MAX_PROOF_NUMBER}
@@ -55,7 +56,8 @@ abbrev pub basic_value : Problem → Dictionary → ℕ → Fraction
 basic_value q d l =
     unwrap_or (option_map (λ i. d.place i (columns q)) (labelled (cost_row q) d.row_label l)) (whole_fraction (pos 0))
 
--- made whole by the least common multiple of their denominators, the multipliers or that multiple pass the limit of proof numbers
+-- made whole by the least common multiple of their denominators, the multipliers or that multiple pass the limit of
+-- proof numbers
 abbrev pub PassLimit : Problem → (ℕ → Fraction) → Type 0
 PassLimit q f =
     let common = common_denominator (length q.rows) f in

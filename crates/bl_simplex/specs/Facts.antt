@@ -13,7 +13,8 @@ row_of a b rhs = record { coef = a ∷ b ∷ []; rhs = rhs }
 
 abbrev pub moore_bard : Problem
 moore_bard = record {
-  rows = row_of (negsuc 24) (pos 20) (pos 30) ∷ row_of (pos 1) (pos 2) (pos 10) ∷ row_of (pos 2) (negsuc 0) (pos 15) ∷ row_of (negsuc 1) (negsuc 9) (negsuc 14) ∷ [];
+  rows = row_of (negsuc 24) (pos 20) (pos 30) ∷ row_of (pos 1) (pos 2) (pos 10) ∷ row_of (pos 2) (negsuc 0) (pos 15)
+      ∷ row_of (negsuc 1) (negsuc 9) (negsuc 14) ∷ [];
   cost = negsuc 0 ∷ negsuc 9 ∷ [];
   area = record { lo = pos 0 ∷ pos 0 ∷ []; hi = pos 10 ∷ pos 10 ∷ [] };
 }

@@ -1,4 +1,5 @@
--- Trusted: the legal pivot, a step of the dual simplex method (Lemke 1954). Its column is found by the dual ratio test, ties going to
+-- Trusted: the legal pivot, a step of the dual simplex method (Lemke 1954). Its column is found by the dual ratio test,
+-- ties going to
 -- the least label (Bland 1977).
 use Rattle.std.specs.Prelude.{◌≡◌, ℕ, ◌<◌, ◌⊎◌, Option, Some, None, IsSome, MatchOption, pos, ◌<ℤ◌}
 use Rattle.std.specs.declared.cmp.Ordering.{Ordering}
@@ -15,7 +16,8 @@ pub record IsCandidate (n : ℕ) (entries : ℕ → Fraction) (j : ℕ) : Type 0
   pub column_in : j < n
   pub negative : (entries j).num <ℤ pos 0
 
--- Bland's rule: one column goes before another where its ratio is less, or the two are equal and it has the lesser label
+-- Bland's rule: one column goes before another where its ratio is less, or the two are equal and it has the lesser
+-- label
 abbrev pub WinsRatioTest : ℕ → ℕ → Fraction → Fraction → Type 0
 WinsRatioTest label label' ratio ratio' =
     (order_of ratio ratio' ≡ Ordering.Less) ⊎ ((order_of ratio ratio' ≡ Ordering.Equal) × (label < label'))
@@ -39,7 +41,8 @@ pub record IsFirstWideRatio (n : ℕ) (costs entries : ℕ → Fraction) (c : �
 abbrev pub IsEntering : ℕ → (ℕ → Fraction) → (ℕ → Fraction) → (ℕ → ℕ) → ℕ → Type 0
 IsEntering n costs entries label c = HasLeastRatio n costs entries label c ⊎ IsFirstWideRatio n costs entries c
 
--- the pivot at (r, c) is legal: the leaving row r isn't the cost row and has a negative right side, and c is its entering column
+-- the pivot at (r, c) is legal: the leaving row r isn't the cost row and has a negative right side, and c is its
+-- entering column
 pub record IsLegal (q : Problem) (d : Dictionary) (r c : ℕ) : Type 0 where
   pub row_in : r < cost_row q
   pub infeasible : (d.place r (columns q)).num <ℤ pos 0

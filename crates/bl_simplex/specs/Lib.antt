@@ -1,4 +1,5 @@
--- What a reader of the solver's contracts has to believe about fractions, dictionaries and licences. All of it is trusted.
+-- What a reader of the solver's contracts has to believe about fractions, dictionaries and licences. All of it is
+-- trusted.
 pub mod Gcd
 pub mod Fractions
 pub mod Rationals

@@ -1,5 +1,7 @@
--- Trusted: what licenses a solver to split a box rather than to close it or to take a point of it: a fractional point that meets
--- the rows below the cutoff, or a run of legal pivots that passes 128 bits, the limit of pivots or the limit of the proof numbers.
+-- Trusted: what licenses a solver to split a box rather than to close it or to take a point of it: a fractional point
+-- that meets
+-- the rows below the cutoff, or a run of legal pivots that passes 128 bits, the limit of pivots or the limit of the
+-- proof numbers.
 use Rattle.std.specs.Prelude.{◌≡◌, ◌≢◌, ℕ, ◌+◌, ◌*◌, ◌<◌, ◌⊎◌, Option, Some, None, ℤ, pos, ◌-ℤ◌, ◌≤ℤ◌, ◌<ℤ◌, List, [], ◌∷◌, ◌++◌, length}
 use Rattle.bl_whole.specs.Sums.{component}
 use Rattle.bl_limits.specs.declared.TheConstants.{MAX_PROOF_NUMBER, PIVOTS_AT_LEAST, PIVOTS_PER_LINE}
@@ -26,7 +28,8 @@ abbrev pub IsBelowCutoff : Option ℤ → Fraction → Type 0
 IsBelowCutoff None cost = Unit {0}
 IsBelowCutoff (Some u) cost = IsAtMost cost (u -ℤ pos 1)
 
--- the distances of the columns from their starts, one reduced fraction for each column and not all of them whole, stay in the box;
+-- the distances of the columns from their starts, one reduced fraction for each column and not all of them whole, stay
+-- in the box;
 -- there every row holds and the cost is below the cutoff. Their common denominator is a proof number within its limit
 pub record IsFractional (q : Problem) (u : Option ℤ) (fs : List Fraction) : Type 0 where
   pub size : length fs ≡ columns q
@@ -52,7 +55,8 @@ abbrev pub AreSteps : Problem → Option ℤ → Dictionary → List (ℕ × ℕ
 AreSteps q u d [] = Unit {0}
 AreSteps q u d (p ∷ ps) = IsStep q u d p × AreSteps q u (pivoted d p.0 p.1) ps
 
--- all pivots but the last are steps; the last is legal in a dictionary that doesn't close, and passes 128 bits first at (row, column)
+-- all pivots but the last are steps; the last is legal in a dictionary that doesn't close, and passes 128 bits first at
+-- (row, column)
 pub record PassesWidth (q : Problem) (u : Option ℤ) (pivots : List (ℕ × ℕ)) (row column : ℕ) : Type 0 where
   pub front : List (ℕ × ℕ)
   pub last : ℕ × ℕ
@@ -72,7 +76,8 @@ pub record PassesPivots (q : Problem) (u : Option ℤ) (pivots : List (ℕ × �
   pub steps : AreSteps q u (opening q) pivots
   pub open_box : ¬ Closes q u (replay (opening q) pivots)
 
--- the dictionary closes the box, and the proof numbers that it gives pass their limit: those of the first closing row, else of the
+-- the dictionary closes the box, and the proof numbers that it gives pass their limit: those of the first closing row,
+-- else of the
 -- cost row
 abbrev pub ClosesPastLimit : Problem → Option ℤ → Dictionary → Type 0
 ClosesPastLimit q u d =

@@ -1,4 +1,5 @@
--- Trusted: the pivot, what stands at each place after it, where it first passes 128 bits, and the replay of a list of pivots.
+-- Trusted: the pivot, what stands at each place after it, where it first passes 128 bits, and the replay of a list of
+-- pivots.
 use Rattle.std.specs.Prelude.{◌≡◌, ◌≢◌, ℕ, zero, suc, ◌<◌, ◌≤◌, ◌⊎◌, ◌==◌, if◌then◌else◌, Bool, Option, None, IsSome, unwrap_or, option_map, option_and_then, pos, List, [], ◌∷◌, ◌++◌}
 use Rattle.bl_terms.specs.Bounds.{Problem}
 use Rattle.bl_simplex.specs.Fractions.{Fraction, whole_fraction, negated, product_of, quotient_of, difference_of}
@@ -8,7 +9,8 @@ use Rattle.bl_simplex.specs.Dictionaries.{Dictionary, columns, cost_row, height_
 abbrev pub scaled_entry : Fraction → Fraction → Bool → Option Fraction
 scaled_entry x pivot own = if own then quotient_of (whole_fraction (pos 1)) pivot else quotient_of x pivot
 
--- the eliminated entry: a number x of another row, whose entry in the pivot column is e, less e times the scaled entry f of the
+-- the eliminated entry: a number x of another row, whose entry in the pivot column is e, less e times the scaled entry
+-- f of the
 -- pivot row; at the pivot's own column minus e times f
 abbrev pub eliminated_entry : Fraction → Fraction → Fraction → Bool → Option Fraction
 eliminated_entry e x f own =

@@ -6,7 +6,8 @@ use Rattle.bl_simplex.specs.Dictionaries.{Dictionary, columns, height_of, width_
 use Rattle.bl_tableau.specs.Cells.{placed, AreReduced}
 use Rattle.bl_simplex.specs.Pivots.{replay, AllNarrow, EndsWide}
 
--- the problem, the greatest count of pivots, the pivots so far (each a row and a column), and whether the last one passed 128 bits
+-- the problem, the greatest count of pivots, the pivots so far (each a row and a column), and whether the last one
+-- passed 128 bits
 pub record Run : Type 0 where
   pub problem : Problem
   pub most : ℕ
@@ -23,7 +24,8 @@ pub record Shows (q : Problem) (cells : List Fraction) (of_rows of_columns : Lis
   pub row_labels : (i : ℕ) → i < height_of q → slice_index of_rows i ≡ d.row_label i
   pub column_labels : (j : ℕ) → j < columns q → slice_index of_columns j ≡ d.column_label j
 
--- what a tableau keeps: until it is spent its numbers and labels are the replay of its pivots, each of which was narrow;
+-- what a tableau keeps: until it is spent its numbers and labels are the replay of its pivots, each of which was
+-- narrow;
 -- once it is spent all pivots but the last were, and the last was not
 pub record KeepsReplay (run : Run) (cells : List Fraction) (of_rows of_columns : List ℕ) (capacity : ℕ) : Type 0 where
   pub fits : Fits run.problem

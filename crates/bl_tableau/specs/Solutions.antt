@@ -7,7 +7,8 @@ use Rattle.bl_simplex.specs.Dictionaries.{Dictionary, columns, cost_row, opening
 use Rattle.bl_simplex.specs.Rationals.{fraction_at}
 use Rattle.bl_simplex.specs.Pivots.{replay, AllNarrow}
 
--- row i holds for the values x of the variables: its variable is its right side less the sum of entry times column variable
+-- row i holds for the values x of the variables: its variable is its right side less the sum of entry times column
+-- variable
 abbrev pub SolvesRow : ℕ → Dictionary → (ℕ → Fraction) → ℕ → Type 0
 SolvesRow n d x i =
     SameRational (x (d.row_label i))

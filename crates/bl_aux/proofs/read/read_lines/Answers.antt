@@ -12,5 +12,7 @@ returns-in-Ok-clause-held c =
 
 pub returns-in-Err-clause-refused : goal.returns-in-Err-clause-refused
 returns-in-Err-clause-refused c =
-    refused_after (sizes_of c.args.columns c.args.rows) c.args.text.now c.enter_lines.new.draft c.in-Err.error c.requires
-    (subst (λ (h : Holding). Reads (Err c.in-Err.error) c.enter_lines.new.draft (after_lines h 1 (lines_of c.args.text.now))) c.none-draft.ensures c.in-Err.ensures)
+    refused_after (sizes_of c.args.columns c.args.rows) c.args.text.now c.enter_lines.new.draft c.in-Err.error
+    c.requires
+    (subst (λ (h : Holding). Reads (Err c.in-Err.error) c.enter_lines.new.draft
+    (after_lines h 1 (lines_of c.args.text.now))) c.none-draft.ensures c.in-Err.ensures)

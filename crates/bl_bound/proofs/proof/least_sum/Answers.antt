@@ -11,7 +11,9 @@ use Rattle.bl_bound.proofs.proof.least_sum.Goals.{After-least_term_of-arg-in-loo
 
 -- the numbers that a column's term is made of give its reduced cost
 reduced : (c : After-least_term_of-arg-in-loop-j-4-1)
-    → to_z w64 (of_z w64 c.proof.inside.den) *ℤ to_z w64 (of_z w64 (slice_index_or c.cost-cost.result.now c.loop-j.j (pos 0))) +ℤ to_z w128 (of_z w128 (slice_index_or c.args.sums.now c.loop-j.j (pos 0)))
+    → to_z w64 (of_z w64 c.proof.inside.den)
+    *ℤ to_z w64 (of_z w64 (slice_index_or c.cost-cost.result.now c.loop-j.j (pos 0)))
+    +ℤ to_z w128 (of_z w128 (slice_index_or c.args.sums.now c.loop-j.j (pos 0)))
     ≡ reduced_cost c.args.problem.now c.args.proof.now c.loop-j.j
 reduced c =
     let j = c.loop-j.j in
@@ -19,15 +21,21 @@ reduced c =
     let cost : FitsSigned w64 (slice_index_or c.cost-cost.result.now j (pos 0)) = search rules in
     let den : FitsSigned w64 c.proof.inside.den = search rules in
     let inside : j < length c.args.problem.now.area.lo = omega (arith, ap length c.lo-lo.ensures.value) in
-    reduced_is c.args.problem.now c.args.proof.now _ _ _ j (to_z-of_z w64 _ den ∙ ap (λ w. w.den) c.proof.view_is) (to_z-of_z w64 _ cost ∙ ap (λ xs. component xs j) c.cost-cost.ensures.value) (to_z-of_z w128 _ part ∙ c.requires.columns j inside)
+    reduced_is c.args.problem.now c.args.proof.now _ _ _ j (to_z-of_z w64 _ den ∙ ap (λ w. w.den) c.proof.view_is)
+    (to_z-of_z w64 _ cost ∙ ap (λ xs. component xs j) c.cost-cost.ensures.value)
+    (to_z-of_z w128 _ part ∙ c.requires.columns j inside)
 
-low : (c : After-least_term_of-arg-in-loop-j-4-1) → to_z w64 (of_z w64 (slice_index_or c.lo-lo.result.now c.loop-j.j (pos 0))) ≡ component c.args.problem.now.area.lo c.loop-j.j
+low : (c : After-least_term_of-arg-in-loop-j-4-1)
+    → to_z w64 (of_z w64 (slice_index_or c.lo-lo.result.now c.loop-j.j (pos 0)))
+    ≡ component c.args.problem.now.area.lo c.loop-j.j
 low c =
     let j = c.loop-j.j in
     let fits : FitsSigned w64 (slice_index_or c.lo-lo.result.now j (pos 0)) = search rules in
     to_z-of_z w64 _ fits ∙ ap (λ xs. component xs j) c.lo-lo.ensures.value
 
-high : (c : After-least_term_of-arg-in-loop-j-4-1) → to_z w64 (of_z w64 (slice_index_or c.hi-hi.result.now c.loop-j.j (pos 0))) ≡ component c.args.problem.now.area.hi c.loop-j.j
+high : (c : After-least_term_of-arg-in-loop-j-4-1)
+    → to_z w64 (of_z w64 (slice_index_or c.hi-hi.result.now c.loop-j.j (pos 0)))
+    ≡ component c.args.problem.now.area.hi c.loop-j.j
 high c =
     let j = c.loop-j.j in
     let fits : FitsSigned w64 (slice_index_or c.hi-hi.result.now j (pos 0)) = search rules in
@@ -42,10 +50,13 @@ least_term_of-term-requires-clause-low c = rw (reduced c, low c) (c.requires.fit
 pub least_term_of-term-requires-clause-high : goal.least_term_of-term-requires-clause-high
 least_term_of-term-requires-clause-high c = rw (reduced c, high c) (c.requires.fits.high_product c.loop-j.j)
 
-term : (c : After-least_term_of-term) → to_z w128 (of_z w128 c.least_term_of-term.result) ≡ least_term c.args.problem.now c.args.proof.now c.loop-j.j
+term : (c : After-least_term_of-term)
+    → to_z w128 (of_z w128 c.least_term_of-term.result) ≡ least_term c.args.problem.now c.args.proof.now c.loop-j.j
 term c =
     let fits : FitsSigned w128 c.least_term_of-term.result = search rules in
-    to_z-of_z w128 _ fits ∙ c.least_term_of-term.ensures ∙ least_is c.args.problem.now c.args.proof.now _ _ _ c.loop-j.j (reduced c.before) (low c.before) (high c.before)
+    to_z-of_z w128 _ fits ∙ c.least_term_of-term.ensures
+    ∙ least_is c.args.problem.now c.args.proof.now _ _ _ c.loop-j.j (reduced c.before) (low c.before)
+    (high c.before)
 
 pub plus-sum-requires : goal.plus-sum-requires
 plus-sum-requires c =
@@ -55,7 +66,9 @@ plus-sum-requires c =
 pub loop-j-preserved : goal.loop-j-preserved
 loop-j-preserved c =
     let fits : FitsSigned w128 c.plus-sum.result = search rules in
-    to_z-of_z w128 _ fits ∙ c.plus-sum.ensures ∙ ap (λ t. to_z w128 c.loop-j.sum-bits +ℤ t) (term c.before) ∙ ap (λ s. s +ℤ least_term c.args.problem.now c.args.proof.now c.loop-j.j) c.loop-j.invariant ∙ sym (sum_below_more c.loop-j.j (least_term c.args.problem.now c.args.proof.now))
+    to_z-of_z w128 _ fits ∙ c.plus-sum.ensures ∙ ap (λ t. to_z w128 c.loop-j.sum-bits +ℤ t) (term c.before)
+    ∙ ap (λ s. s +ℤ least_term c.args.problem.now c.args.proof.now c.loop-j.j) c.loop-j.invariant
+    ∙ sym (sum_below_more c.loop-j.j (least_term c.args.problem.now c.args.proof.now))
 
 pub returns : goal.returns
 returns c =

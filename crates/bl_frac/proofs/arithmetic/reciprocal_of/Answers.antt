@@ -3,7 +3,8 @@ use Rattle.bl_frac.proofs.LowestTerms.{IsReduced-reciprocal_of_negative, IsReduc
 use Rattle.bl_frac.proofs.arithmetic.reciprocal_of.Goals as goal
 
 pub invariant_of-t-4 : goal.invariant_of-t-4
-invariant_of-t-4 c = IsReduced-reciprocal_of_negative _ _ _ c.a.invariant c.unsigned_abs-den.ensures.value c.if-a-lt0.true
+invariant_of-t-4 c =
+    IsReduced-reciprocal_of_negative _ _ _ c.a.invariant c.unsigned_abs-den.ensures.value c.if-a-lt0.true
 
 pub invariant_of-result : goal.invariant_of-result
 invariant_of-result c =

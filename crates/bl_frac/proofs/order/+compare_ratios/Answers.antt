@@ -11,7 +11,9 @@ returns-then-left-right t c =
 pub returns-then-left-eq0 : goal.returns-then-left-eq0
 returns-then-left-eq0 t c =
     let a = c.args in
-    c.cmp-then-left-eq0.ensures ∙ ratios_at_zero (a.p % a.q) (a.r % a.s) a.q a.s c.requires.left c.requires.right c.then-left-eq0.either ∙ sym (ratios_by_rests a.p a.q a.r a.s c.if-left-right.false)
+    c.cmp-then-left-eq0.ensures
+    ∙ ratios_at_zero (a.p % a.q) (a.r % a.s) a.q a.s c.requires.left c.requires.right c.then-left-eq0.either
+    ∙ sym (ratios_by_rests a.p a.q a.r a.s c.if-left-right.false)
 
 pub returns : goal.returns
 returns t c =

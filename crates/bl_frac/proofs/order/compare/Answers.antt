@@ -14,6 +14,10 @@ returns-in-Ok-Ok c =
     let other = signed_back q.num c.b.invariant.num_narrow in
     let den = signed_of p.den c.a.invariant.den_narrow in
     let under = signed_of q.den c.b.invariant.den_narrow in
-    let left = narrowed_value _ (p.num *ℤ pos q.den) _ _ c.product-left.ensures c.in-Ok-Ok.is-0 (ap (λ z. z *ℤ to_z w128 q.den) num ∙ ap (λ z. p.num *ℤ z) under) in
-    let right = narrowed_value _ (q.num *ℤ pos p.den) _ _ c.product-right.ensures c.in-Ok-Ok.is-1 (ap (λ z. z *ℤ to_z w128 p.den) other ∙ ap (λ z. q.num *ℤ z) den) in
-    rw (← c.a.view_is, ← c.b.view_is) (c.cmp.ensures ∙ ap (λ z. int_cmp z (to_z w128 (of_z w128 c.in-Ok-Ok.right))) left.2 ∙ ap (int_cmp (p.num *ℤ pos q.den)) right.2)
+    let left = narrowed_value _ (p.num *ℤ pos q.den) _ _ c.product-left.ensures c.in-Ok-Ok.is-0
+    (ap (λ z. z *ℤ to_z w128 q.den) num ∙ ap (λ z. p.num *ℤ z) under) in
+    let right = narrowed_value _ (q.num *ℤ pos p.den) _ _ c.product-right.ensures c.in-Ok-Ok.is-1
+    (ap (λ z. z *ℤ to_z w128 p.den) other ∙ ap (λ z. q.num *ℤ z) den) in
+    rw (← c.a.view_is, ← c.b.view_is)
+    (c.cmp.ensures ∙ ap (λ z. int_cmp z (to_z w128 (of_z w128 c.in-Ok-Ok.right))) left.2
+    ∙ ap (int_cmp (p.num *ℤ pos q.den)) right.2)

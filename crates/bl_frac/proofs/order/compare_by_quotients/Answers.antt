@@ -13,7 +13,8 @@ returns-in-true-true c =
     let right = signed_back q.num c.b.invariant.num_narrow in
     let size = c.unsigned_abs-left.ensures.value ∙ ap unsigned_abs left in
     let other = c.unsigned_abs-right.ensures.value ∙ ap unsigned_abs right in
-    let e = order_of_negatives p.num q.num p.den q.den (rw left at c.in-true-true.is-0) (rw right at c.in-true-true.is-1) in
+    let e = order_of_negatives p.num q.num p.den q.den (rw left at c.in-true-true.is-0)
+    (rw right at c.in-true-true.is-1) in
     rw (← c.a.view_is, ← c.b.view_is) (cc)
 
 pub returns-in-true-false : goal.returns-in-true-false
@@ -23,7 +24,8 @@ returns-in-true-false c =
     let q = c.b.inside in
     let left = signed_back p.num c.a.invariant.num_narrow in
     let right = signed_back q.num c.b.invariant.num_narrow in
-    let e = order_below p.num q.num p.den q.den c.b.invariant.den_positive (rw left at c.in-true-false.is-0) (rw right at c.in-true-false.is-1) in
+    let e = order_below p.num q.num p.den q.den c.b.invariant.den_positive (rw left at c.in-true-false.is-0)
+    (rw right at c.in-true-false.is-1) in
     rw (← c.a.view_is, ← c.b.view_is) (cc)
 
 pub returns-in-false-true : goal.returns-in-false-true
@@ -33,7 +35,8 @@ returns-in-false-true c =
     let q = c.b.inside in
     let left = signed_back p.num c.a.invariant.num_narrow in
     let right = signed_back q.num c.b.invariant.num_narrow in
-    let e = order_above p.num q.num p.den q.den c.a.invariant.den_positive (rw left at c.in-false-true.is-0) (rw right at c.in-false-true.is-1) in
+    let e = order_above p.num q.num p.den q.den c.a.invariant.den_positive (rw left at c.in-false-true.is-0)
+    (rw right at c.in-false-true.is-1) in
     rw (← c.a.view_is, ← c.b.view_is) (cc)
 
 pub returns-in-false-false : goal.returns-in-false-false
@@ -45,5 +48,6 @@ returns-in-false-false c =
     let right = signed_back q.num c.b.invariant.num_narrow in
     let size = c.unsigned_abs-left.ensures.value ∙ ap unsigned_abs left in
     let other = c.unsigned_abs-right.ensures.value ∙ ap unsigned_abs right in
-    let e = order_of_naturals p.num q.num p.den q.den (rw left at c.in-false-false.is-0) (rw right at c.in-false-false.is-1) in
+    let e = order_of_naturals p.num q.num p.den q.den (rw left at c.in-false-false.is-0)
+    (rw right at c.in-false-false.is-1) in
     rw (← c.a.view_is, ← c.b.view_is) (cc)

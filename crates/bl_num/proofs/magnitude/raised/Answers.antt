@@ -9,4 +9,5 @@ loop-step-preserved c =
     ∙ capped-power-more c.args.number c.loop-step._step
 
 pub returns : goal.returns
-returns c = c.loop-step.invariant ∙ capped-power-end c.args.number c.args.power c.loop-step._step (omega (arith, c.min-step-end.ensures))
+returns c = c.loop-step.invariant
+    ∙ capped-power-end c.args.number c.args.power c.loop-step._step (omega (arith, c.min-step-end.ensures))

@@ -11,11 +11,13 @@ pub returns-then-not-are_zeros : goal.returns-then-not-are_zeros
 returns-then-not-are_zeros c =
     let cut : AreCut c.args.fraction.now c.split_at.result.0.now c.split_at.result.1.now c.min-moved.result =
     record { front_is = c.split_at.ensures.front; back_is = c.split_at.ensures.back } in
-    raised-rest c.args.whole.now c.args.fraction.now _ _ _ _ _ c.requires.fraction (omega arith) c.number_after-power.ensures c.min-moved.ensures cut
+    raised-rest c.args.whole.now c.args.fraction.now _ _ _ _ _ c.requires.fraction
+    (omega arith) c.number_after-power.ensures c.min-moved.ensures cut
     (sym c.are_zeros.ensures ∙ c.if-not-are_zeros.true)
 
 pub number_after-number-requires-clause-digits : goal.number_after-number-requires-clause-digits
-number_after-number-requires-clause-digits c = rw (c.split_at.ensures.front) (AllDigits-take _ c.args.fraction.now c.requires.fraction)
+number_after-number-requires-clause-digits c =
+    rw (c.split_at.ensures.front) (AllDigits-take _ c.args.fraction.now c.requires.fraction)
 
 pub returns : goal.returns
 returns c =
@@ -27,6 +29,9 @@ returns c =
     ∙ capped-after front (digits_value 10 c.args.whole.now)
     ∙ ap capped (sym (after-append 0 c.args.whole.now front)) in
     let more = c.number_after-power.result - c.min-moved.result in
-    ap (λ (n : ℕ). Some n) (c.raised.ensures ∙ ap (λ (n : ℕ). capped (n * 10 ^ more)) number ∙ capped-times (digits_value 10 (c.args.whole.now ++ front)) more)
-    ∙ raised-zeros c.args.whole.now c.args.fraction.now _ _ _ _ _ c.requires.fraction (omega arith) c.number_after-power.ensures c.min-moved.ensures cut
+    ap (λ (n : ℕ). Some n)
+    (c.raised.ensures ∙ ap (λ (n : ℕ). capped (n * 10 ^ more)) number
+    ∙ capped-times (digits_value 10 (c.args.whole.now ++ front)) more)
+    ∙ raised-zeros c.args.whole.now c.args.fraction.now _ _ _ _ _ c.requires.fraction
+    (omega arith) c.number_after-power.ensures c.min-moved.ensures cut
     (sym c.are_zeros.ensures ∙ c.if-not-are_zeros.false)

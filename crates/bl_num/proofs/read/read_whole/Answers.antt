@@ -11,10 +11,13 @@ unfolding parts_of read_of
 returns-in-Some c =
     let bytes = c.args.bytes.now in
     let parts = c.parts_of-parts.ensures in
-    let sign : c.parts.inside.negative ≡ starts_with_minus bytes = ap (λ (p : Parts). p.negative) (c.parts.view_is ∙ parts) in
-    let number : is_number (parts_of bytes) ≡ true = ap is_number (sym parts) ∙ sym c.is_number.ensures ∙ c.if-not-is_number.false in
+    let sign : c.parts.inside.negative ≡ starts_with_minus bytes =
+    ap (λ (p : Parts). p.negative) (c.parts.view_is ∙ parts) in
+    let number : is_number (parts_of bytes) ≡ true =
+    ap is_number (sym parts) ∙ sym c.is_number.ensures ∙ c.if-not-is_number.false in
     rw number
     (c.limited.ensures
     ∙ ap (λ (b : Bool). limited b (Some c.in-Some.magnitude)) sign
-    ∙ ap (limited (starts_with_minus bytes)) (c.in-Some.ensures ∙ ap (λ (p : Parts). option_map capped (magnitude_of p)) parts)
+    ∙ ap (limited (starts_with_minus bytes))
+    (c.in-Some.ensures ∙ ap (λ (p : Parts). option_map capped (magnitude_of p)) parts)
     ∙ limited-capped (starts_with_minus bytes) (magnitude_of (parts_of bytes)))

@@ -10,10 +10,15 @@ returns-in_ok-replace-in-Some-clause-put c =
 pub returns-in_ok-push-in-None-clause-put : goal.returns-in_ok-push-in-None-clause-put
 returns-in_ok-push-in-None-clause-put c =
     let none = rw c.deref.ensures.value at c.in-None.ensures.absent in
-    put_last _ _ _ _ none (c.in_ok-push-in-None.ensures.items ∙ ap (λ (file : List ℕ × List ℕ). c.args.files.now.items ++ file ∷ []) c.in_ok-new-in-None.ensures)
+    put_last _ _ _ _ none
+    (c.in_ok-push-in-None.ensures.items
+    ∙ ap (λ (file : List ℕ × List ℕ). c.args.files.now.items ++ file ∷ []) c.in_ok-new-in-None.ensures)
 
 pub returns-in_ok-push-in-None-clause-place : goal.returns-in_ok-push-in-None-clause-place
 returns-in_ok-push-in-None-clause-place c =
     let none = rw c.deref.ensures.value at c.in-None.ensures.absent in
-    let last : c.len.result - 1 ≡ length c.args.files.now.items = omega (arith, c.in_ok-push-in-None.ensures.len, c.args.files.now.ok.0) in
-    last_place _ _ _ _ none (c.in_ok-push-in-None.ensures.items ∙ ap (λ (file : List ℕ × List ℕ). c.args.files.now.items ++ file ∷ []) c.in_ok-new-in-None.ensures) _ last
+    let last : c.len.result - 1 ≡ length c.args.files.now.items =
+    omega (arith, c.in_ok-push-in-None.ensures.len, c.args.files.now.ok.0) in
+    last_place _ _ _ _ none
+    (c.in_ok-push-in-None.ensures.items
+    ∙ ap (λ (file : List ℕ × List ℕ). c.args.files.now.items ++ file ∷ []) c.in_ok-new-in-None.ensures) _ last

@@ -25,7 +25,8 @@ least_over-least_cost-requires t c =
       search rules,
       (
         In-set c.args.model.now c.loop-value.z c.args.column
-            (to_z w64 c.loop-value.value-bits) c.loop-value.invariant.inside c.requires.column c.loop-value.invariant.from
+            (to_z w64 c.loop-value.value-bits) c.loop-value.invariant.inside c.requires.column
+            c.loop-value.invariant.from
             high,
         c.requires.rest,
       ),

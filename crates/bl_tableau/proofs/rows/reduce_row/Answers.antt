@@ -13,12 +13,18 @@ returns-then-is_zero-clause-ok c j h =
     let all = c.requires.numbers.each in
     let factor = read_cell xs (a.start + a.column) _ (omega arith) c.index-cells-start.is in
     let is_nought : Fraction → Type 0 = λ f. f.num ≡ pos 0 in
-    remainder_without_factor (fraction_at xs (a.start + a.column)) (fraction_at xs (a.start + j)) (fraction_at xs (a.pivot + j)) (j == a.column) (all (a.start + a.column) (omega arith)) (all (a.start + j) (omega arith)) (all (a.pivot + j) (omega arith)) (subst is_nought factor (c.is_zero.ensures.0 c.if-is_zero.true)) (λ e. ap (λ k. fraction_at xs (a.start + k)) (same_number j a.column e))
+    remainder_without_factor (fraction_at xs (a.start + a.column)) (fraction_at xs (a.start + j))
+    (fraction_at xs (a.pivot + j)) (j == a.column) (all (a.start + a.column) (omega arith))
+    (all (a.start + j) (omega arith)) (all (a.pivot + j) (omega arith))
+    (subst is_nought factor (c.is_zero.ensures.0 c.if-is_zero.true))
+    (λ e. ap (λ k. fraction_at xs (a.start + k)) (same_number j a.column e))
 
 pub eliminated-requires-clause-number : goal.eliminated-requires-clause-number
 eliminated-requires-clause-number c =
-    read_reduced c.loop-j.cells (c.args.start + c.loop-j.j) _ c.loop-j.invariant.numbers (omega arith) c.index-cells-start-in-loop-j.is
+    read_reduced c.loop-j.cells (c.args.start + c.loop-j.j) _ c.loop-j.invariant.numbers
+    (omega arith) c.index-cells-start-in-loop-j.is
 
 pub eliminated-requires-clause-scaled_reduced : goal.eliminated-requires-clause-scaled_reduced
 eliminated-requires-clause-scaled_reduced c =
-    read_reduced c.loop-j.cells (c.args.pivot + c.loop-j.j) _ c.loop-j.invariant.numbers (omega arith) c.index-cells-pivot.is
+    read_reduced c.loop-j.cells (c.args.pivot + c.loop-j.j) _ c.loop-j.invariant.numbers
+    (omega arith) c.index-cells-pivot.is

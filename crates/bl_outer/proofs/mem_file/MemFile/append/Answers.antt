@@ -5,4 +5,5 @@ use Rattle.bl_outer.proofs.mem_file.MemFile.append.Goals as goal
 
 pub returns-clause-part : goal.returns-clause-part
 returns-clause-part c =
-    subst (λ (file : List ℕ × List ℕ). OnFalse c.add_piece.result (AddsPrefix c.args.piece.now file.1 c.add_piece.new.into.items)) c.self.view_is c.add_piece.ensures.part
+    subst (λ (file : List ℕ × List ℕ). OnFalse c.add_piece.result
+    (AddsPrefix c.args.piece.now file.1 c.add_piece.new.into.items)) c.self.view_is c.add_piece.ensures.part

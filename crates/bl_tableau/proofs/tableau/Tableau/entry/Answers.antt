@@ -14,8 +14,12 @@ returns-clause-value c =
     let fresh : s.spent ≡ false = subst Fresh (sym c.self.view_is) c.requires.not_spent in
     let row : c.args.row ≤ cost_row s.problem.now = subst InRow (sym c.self.view_is) c.requires.row_in in
     let column : c.args.column < columns s.problem.now = subst InColumn (sym c.self.view_is) c.requires.column_in in
-    let width : c.len-width.result + 1 ≡ width_of s.problem.now = omega (arith, s.column_labels.ok.0, c.len-width.ensures, k.labels) in
-    rw (← c.self.view_is) (shown s.problem.now s.cells.items s.row_labels.items s.column_labels.items _ (c.len-width.result + 1) c.args.row c.args.column _ (k.shows fresh) k.size width (omega arith) (omega arith) c.index.ensures)
+    let width : c.len-width.result + 1 ≡ width_of s.problem.now =
+    omega (arith, s.column_labels.ok.0, c.len-width.ensures, k.labels) in
+    rw (← c.self.view_is)
+    (shown s.problem.now s.cells.items s.row_labels.items s.column_labels.items _
+    (c.len-width.result + 1) c.args.row c.args.column _ (k.shows fresh) k.size width (omega arith)
+    (omega arith) c.index.ensures)
 
 pub returns-clause-lowest_terms : goal.returns-clause-lowest_terms
 returns-clause-lowest_terms c =
@@ -27,5 +31,7 @@ returns-clause-lowest_terms c =
     let fresh : s.spent ≡ false = subst Fresh (sym c.self.view_is) c.requires.not_spent in
     let row : c.args.row ≤ cost_row s.problem.now = subst InRow (sym c.self.view_is) c.requires.row_in in
     let column : c.args.column < columns s.problem.now = subst InColumn (sym c.self.view_is) c.requires.column_in in
-    let width : c.len-width.result + 1 ≡ width_of s.problem.now = omega (arith, s.column_labels.ok.0, c.len-width.ensures, k.labels) in
-    shown_reduced s.problem.now s.cells.items (c.len-width.result + 1) c.args.row c.args.column _ (k.numbers fresh) k.size width (omega arith) (omega arith) c.index.ensures
+    let width : c.len-width.result + 1 ≡ width_of s.problem.now =
+    omega (arith, s.column_labels.ok.0, c.len-width.ensures, k.labels) in
+    shown_reduced s.problem.now s.cells.items (c.len-width.result + 1) c.args.row c.args.column _
+    (k.numbers fresh) k.size width (omega arith) (omega arith) c.index.ensures

@@ -5,5 +5,6 @@ use Rattle.bl_tableau.proofs.tableau.Tableau.pivots.Goals as goal
 
 pub returns-clause-failed : goal.returns-clause-failed
 returns-clause-failed c =
-    let Failed : Run → Type 0 = λ run. run.spent ≡ true → (row : ℕ) × (column : ℕ) × EndsWide run.problem run.pivots row column in
+    let Failed : Run → Type 0 = λ run. run.spent ≡ true
+    → (row : ℕ) × (column : ℕ) × EndsWide run.problem run.pivots row column in
     subst Failed c.self.view_is c.self.invariant.failed
