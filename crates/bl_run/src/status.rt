@@ -5,8 +5,11 @@ ghost use Rattle.std.specs.List.{flat_map};
 ghost use Rattle.bl_outer.specs.Count.{HasCause};
 ghost use Rattle.bl_outer.specs.Files.{Told};
 ghost use Rattle.bl_outer.specs.Sink.{Adds, AddsPrefix};
+ghost use Rattle.bl_run.specs.Steps.{fault_line};
 
+use crate::fault::{Place, TextFault};
 use bl_outer::{Sink, SinkFail};
+use itoa::Buffer;
 use std::alloc::AllocError;
 
 /// The exit status. `run` says which comes when.
@@ -39,7 +42,7 @@ impl Answer {
 #[derive(Clone, Copy, Debug)]
 pub(crate) enum Failure<'a> {
     Words,
-    NotYet(&'a str),
+    Text(&'a str, TextFault),
     ReadFault(&'a str),
     WriteFault,
     Memory,
@@ -79,7 +82,7 @@ impl Failure<'_> {
     {
         Status(match self {
             Failure::Words => 2,
-            Failure::NotYet(_) => 3,
+            Failure::Text(_, _) => 3,
             Failure::ReadFault(_) => 6,
             Failure::WriteFault => 7,
             Failure::Memory => 8,
@@ -93,7 +96,7 @@ impl Failure<'_> {
     {
         let _ = match self {
             Failure::Words => put_all(err, &[b"mibs: words not understood\n"]),
-            Failure::NotYet(file) => put_all(err, &[b"mibs: ", file.as_bytes(), b": NotYet\n"]),
+            Failure::Text(file, fault) => tell_fault(err, file, fault),
             Failure::ReadFault(file) => put_all(
                 err,
                 &[b"mibs: read fault: ", file.as_bytes(), b"\n"],
@@ -102,6 +105,28 @@ impl Failure<'_> {
             Failure::Memory => put_all(err, &[b"mibs: want of memory\n"]),
             Failure::Missing(file) => put_all(err, &[b"mibs: ", file.as_bytes(), b": missing\n"]),
         };
+    }
+}
+
+/// Prints the line on a text that breaks a rule.
+fn tell_fault<E: Sink>(err: &mut E, file: &str, fault: TextFault) -> Result<(), SinkFail>
+    ensures ok { OnOk result (Told (Adds (fault_line file.now fault.entry))
+        (E.state err.old).bytes (E.state err.new).bytes) }
+    ensures err { OnErr result (Told (AddsPrefix (fault_line file.now fault.entry))
+        (E.state err.old).bytes (E.state err.new).bytes) }
+    ensures fault { HasCause (E.state err.old).faults (E.state err.new).faults result }
+{
+    let (file, rule) = (file.as_bytes(), fault.rule.as_bytes());
+    match fault.place {
+        Place::Whole => put_all(err, &[b"mibs: ", file, b": ", rule, b"\n"]),
+        Place::Line(line) => {
+            let mut digits = Buffer::new();
+            let line = digits.format(line).as_bytes();
+            put_all(
+                err,
+                &[b"mibs: ", file, b": line ", line, b": ", rule, b"\n"],
+            )
+        }
     }
 }
 
