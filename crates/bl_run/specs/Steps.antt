@@ -1,9 +1,11 @@
 -- Internal: what the private calls of a command promise one another.
-use Rattle.std.specs.Prelude.{◌≡◌, ℕ, ◌<◌, List, ◌++◌, length, Option, Ok, Err, ⊤}
+use Rattle.std.specs.Prelude.{◌≡◌, ℕ, ◌<◌, List, ◌++◌, length, Option, Ok, Err, ⊤, codes}
 use Rattle.std.specs.declared.result.Result.{Result}
-use Rattle.bl_outer.specs.Files.{Files, IfTold, IsAbsent}
+use Rattle.bl_outer.specs.Count.{Grew}
+use Rattle.bl_outer.specs.Files.{Files, IfTold, Told, IsAbsent}
 use Rattle.bl_outer.specs.Files as outer
 use Rattle.bl_outer.specs.Shelf.{ShelfState, OnlyReads}
+use Rattle.bl_outer.specs.Sink.{SinkState, Adds, AddsPrefix}
 use Rattle.bl_raw.specs.declared.raw.RawColumn.{RawColumn}
 use Rattle.bl_raw.specs.declared.raw.RawMps.{RawMps}
 use Rattle.bl_raw.specs.declared.raw.RawAux.{RawAux}
@@ -44,9 +46,18 @@ failure_ending failure.WriteFault = WriteFault ToOutput
 failure_ending failure.Memory = OutOfMemory
 failure_ending (failure.Missing file) = Missing file.now
 
+-- the rule that a text breaks, with its place and the end of its line
+abbrev pub rule_line : TextFault → List ℕ
+rule_line fault = place_text (place_of fault.place) ++ (fault.rule.now ++ codes "\n")
+
 -- the line on a text that breaks a rule
 abbrev pub fault_line : List ℕ → TextFault → List ℕ
 fault_line file fault = file_line file (place_text (place_of fault.place) ++ fault.rule.now)
+
+-- a line was put, or some first bytes of it and the fault was counted
+abbrev pub Puts : {T E : Type 0} → List ℕ → SinkState → SinkState → Result T E → Type 0
+Puts line old new (Ok _) = Told (Adds line) old.bytes new.bytes × (new.faults ≡ old.faults)
+Puts line old new (Err _) = Told (AddsPrefix line) old.bytes new.bytes × Grew old.faults new.faults
 
 -- the ending with what a command answers
 abbrev pub result_ending : Result Answer Failure → Ending

@@ -1,11 +1,7 @@
 //! How the program ends.
 
-ghost use Rattle.std.specs.Prelude.{◌≡◌, map, OnOk, OnErr};
 ghost use Rattle.std.specs.List.{flat_map};
-ghost use Rattle.bl_outer.specs.Count.{HasCause};
-ghost use Rattle.bl_outer.specs.Files.{Told};
-ghost use Rattle.bl_outer.specs.Sink.{Adds, AddsPrefix};
-ghost use Rattle.bl_run.specs.Steps.{fault_line};
+ghost use Rattle.bl_run.specs.Steps.{Puts, fault_line, rule_line};
 
 use crate::fault::{Place, TextFault};
 use bl_outer::{Sink, SinkFail};
@@ -110,33 +106,29 @@ impl Failure<'_> {
 
 /// Prints the line on a text that breaks a rule.
 fn tell_fault<E: Sink>(err: &mut E, file: &str, fault: TextFault) -> Result<(), SinkFail>
-    ensures ok { OnOk result (Told (Adds (fault_line file.now fault.entry))
-        (E.state err.old).bytes (E.state err.new).bytes) }
-    ensures err { OnErr result (Told (AddsPrefix (fault_line file.now fault.entry))
-        (E.state err.old).bytes (E.state err.new).bytes) }
-    ensures fault { HasCause (E.state err.old).faults (E.state err.new).faults result }
+    ensures { Puts (fault_line file.now fault) (E.state err.old) (E.state err.new) result }
 {
-    let (file, rule) = (file.as_bytes(), fault.rule.as_bytes());
+    put_all(err, &[b"mibs: ", file.as_bytes(), b": "])?;
+    put_rule(err, fault)
+}
+
+fn put_rule<E: Sink>(err: &mut E, fault: TextFault) -> Result<(), SinkFail>
+    ensures { Puts (rule_line fault) (E.state err.old) (E.state err.new) result }
+{
+    let rule = fault.rule.as_bytes();
     match fault.place {
-        Place::Whole => put_all(err, &[b"mibs: ", file, b": ", rule, b"\n"]),
+        Place::Whole => put_all(err, &[rule, b"\n"]),
         Place::Line(line) => {
             let mut digits = Buffer::new();
             let line = digits.format(line).as_bytes();
-            put_all(
-                err,
-                &[b"mibs: ", file, b": line ", line, b": ", rule, b"\n"],
-            )
+            put_all(err, &[b"line ", line, b": ", rule, b"\n"])
         }
     }
 }
 
 /// Puts the pieces in order, up to the first that isn't taken.
 fn put_all<E: Sink>(err: &mut E, pieces: &[&[u8]]) -> Result<(), SinkFail>
-    ensures ok { OnOk result (Told (Adds (flat_map (λ piece. piece.now) pieces.now))
-        (E.state err.old).bytes (E.state err.new).bytes) }
-    ensures err { OnErr result (Told (AddsPrefix (flat_map (λ piece. piece.now) pieces.now))
-        (E.state err.old).bytes (E.state err.new).bytes) }
-    ensures fault { HasCause (E.state err.old).faults (E.state err.new).faults result }
+    ensures { Puts (flat_map (λ piece. piece.now) pieces.now) (E.state err.old) (E.state err.new) result }
 {
     for piece in pieces {
         err.put(piece)?;
