@@ -1,4 +1,3 @@
-pub mod AuxLemmas
 pub mod PromiseLemmas
 pub mod SolveLemmas
 pub mod StatusLemmas

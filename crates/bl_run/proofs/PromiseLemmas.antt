@@ -8,12 +8,14 @@ use Rattle.bl_raw.specs.declared.raw.RawMps.{RawMps}
 use Rattle.bl_raw.specs.declared.raw.RawAux.{RawAux}
 use Rattle.bl_model.specs.Build.{program_of}
 use Rattle.bl_mps.proofs.OneModel.{says_one}
+use Rattle.bl_aux.proofs.Meanings.{tells_one}
+use Rattle.bl_aux.specs.declared.fault.AuxFault.{AuxFault}
 use Rattle.bl_terms.specs.Programs.{root}
 use Rattle.bl_terms.specs.Trees.{point_count}
 use Rattle.bl_run.specs.declared.status.Answer.{Answer}
 use Rattle.bl_run.specs.declared.status.Answer.TheVariants as answer
 use Rattle.bl_run.specs.Words.{SolveWords, AreSolveWords, AreRefused}
-use Rattle.bl_run.specs.Texts.{IsMpsText, IsAuxText, IsNotYet}
+use Rattle.bl_run.specs.Texts.{IsMpsText, IsAuxText, IsAuxFault, IsNotYet, sizes, aux_rule, line_place}
 use Rattle.bl_run.specs.Endings.{Place, AsWhole, Ending, Done, NoPoint, BadWords, BadText, NodesSpent, FollowerSpent, ReadFault, WriteFault, OutOfMemory, NotAccepted, Missing, ManyPoints, ToFile, ToOutput, status_of, line_of}
 use Rattle.bl_run.specs.Solve.{Run, program, HasMps, HasAux, Reads, ReadsMps, RefusesMps, RefusesAux, RefusesBox, RefusesText, IsMissing}
 use Rattle.bl_run.specs.Promise.{Outside, HasCause, ComesFirst, IsAnswer, IsDue, Tells, Promise}
@@ -39,8 +41,14 @@ one_model : (text : List ℕ) (a b : RawMps) → IsMpsText text a → IsMpsText 
 one_model text a b these those = says_one text (pos 1) a b (these.1 (pos 1)) (those.1 (pos 1))
 
 -- what isn't read yet is refused in one way
-one_fault : (place place' : Place) (rule rule' : List ℕ) → IsNotYet place rule → IsNotYet place' rule' → (place ≡ place') × (rule ≡ rule')
-one_fault place place' rule rule' h k = (h.0 ∙ sym k.0, h.1 ∙ sym k.1)
+not_yet_once : (place place' : Place) (rule rule' : List ℕ) → IsNotYet place rule → IsNotYet place' rule' → (place ≡ place') × (rule ≡ rule')
+not_yet_once place place' rule rule' h k = (h.0 ∙ sym k.0, h.1 ∙ sym k.1)
+
+-- an auxiliary text is refused in one way
+aux_once : (mps : RawMps) (text : List ℕ) (place place' : Place) (rule rule' : List ℕ) → IsAuxFault mps text place rule → IsAuxFault mps text place' rule' → (place ≡ place') × (rule ≡ rule')
+aux_once mps text place place' rule rule' h k =
+    let same = tells_one.fault (sizes mps) text h.fault k.fault h.first k.first in
+    (h.at ∙ ap (λ (f : AuxFault). line_place f.line) same ∙ sym k.at, h.by_rule ∙ ap (λ (f : AuxFault). aux_rule f.rule) same ∙ sym k.by_rule)
 
 -- the box is that of the model alone
 one_box : (mps : RawMps) (aux other : RawAux) → point_count (root (program_of mps aux)) ≡ point_count (root (program_of mps other))
@@ -77,9 +85,10 @@ module _ (files : Files) (run other : Run) (same : run.words ≡ other.words) wh
 
   aux_unrefused : (file : List ℕ) (place : Place) (rule : List ℕ) → Reads (Some files) run → RefusesAux (Some files) other file place rule → ⊥
   aux_unrefused file place rule h k =
-      k.fault.unread run.aux
+      tells_one.apart (sizes other.mps) other.aux_text run.aux k.fault.fault
       (subst (λ (mps : RawMps). IsAuxText mps other.aux_text run.aux) (one_mps h.mps k.mps)
       (subst (λ (text : List ℕ). IsAuxText run.mps text run.aux) (one_aux_text h.held k.held) h.says))
+      k.fault.first
 
   box_unrefused : (file : List ℕ) (place : Place) (rule : List ℕ) → Reads (Some files) run → point_count (root (program run)) ≤ MAX_WALK_POINTS → RefusesBox (Some files) other file place rule → ⊥
   box_unrefused file place rule h few k =
@@ -109,10 +118,10 @@ module _ (files : Files) (run other : Run) (same : run.words ≡ other.words) wh
           first.fault.unread (subst (λ (text : List ℕ). IsMpsText text other.mps) (sym (one_mps_text first.held read.held)) read.says).0
 
 -- the first cause is one
-same_refusal : (file file' : List ℕ) (place place' : Place) (rule rule' : List ℕ) → file ≡ file' → IsNotYet place rule → IsNotYet place' rule' → BadText file place rule ≡ BadText file' place' rule'
-same_refusal file file' place place' rule rule' e h k =
-    let p = (one_fault place place' rule rule' h k).0 in
-    let r = (one_fault place place' rule rule' h k).1 in
+same_refusal : (file file' : List ℕ) (place place' : Place) (rule rule' : List ℕ) → file ≡ file' → (place ≡ place') × (rule ≡ rule') → BadText file place rule ≡ BadText file' place' rule'
+same_refusal file file' place place' rule rule' e h =
+    let p = h.0 in
+    let r = h.1 in
     cc
 
 module _ (files : Files) (run other : Run) (same : run.words ≡ other.words) (file file' : List ℕ) (place place' : Place) (rule rule' : List ℕ) where
@@ -125,20 +134,27 @@ module _ (files : Files) (run other : Run) (same : run.words ≡ other.words) (f
       aux_name : file ≡ run.words.aux → file' ≡ other.words.aux → file ≡ file'
       aux_name h k = h ∙ (same_aux_name files run other same ∙ sym k)
 
+      one_aux : RefusesAux (Some files) run file place rule → RefusesAux (Some files) other file' place' rule' → (place ≡ place') × (rule ≡ rule')
+      one_aux second aux =
+          let model = one_mps files run other same second.mps aux.mps in
+          let text = one_aux_text files run other same second.held aux.held in
+          aux_once other.mps other.aux_text place place' rule rule'
+          (subst (λ (mps : RawMps). IsAuxFault mps other.aux_text place rule) model (subst (λ (t : List ℕ). IsAuxFault run.mps t place rule) text second.fault)) aux.fault
+
       at_mps : RefusesMps (Some files) run file place rule → RefusesText (Some files) other file' place' rule' → BadText file place rule ≡ BadText file' place' rule'
       at_mps first k =
-          ⊎_elim (λ mps. same_refusal file file' place place' rule rule' (mps_name first.named mps.named) first.fault.not_yet mps.fault.not_yet)
+          ⊎_elim (λ mps. same_refusal file file' place place' rule rule' (mps_name first.named mps.named) (not_yet_once place place' rule rule' first.fault.not_yet mps.fault.not_yet))
           (λ rest. ⊎_elim (λ aux. absurd (mps_unrefused files other run (sym same) file place rule aux.mps first)) (λ box. absurd (mps_unrefused files other run (sym same) file place rule box.reads.mps first)) rest) k
 
       at_aux : RefusesAux (Some files) run file place rule → RefusesText (Some files) other file' place' rule' → BadText file place rule ≡ BadText file' place' rule'
       at_aux second k =
           ⊎_elim (λ mps. absurd (mps_unrefused files run other same file' place' rule' second.mps mps))
-          (λ rest. ⊎_elim (λ aux. same_refusal file file' place place' rule rule' (aux_name second.named aux.named) second.fault.not_yet aux.fault.not_yet) (λ box. absurd (aux_unrefused files other run (sym same) file place rule box.reads second)) rest) k
+          (λ rest. ⊎_elim (λ aux. same_refusal file file' place place' rule rule' (aux_name second.named aux.named) (one_aux second aux)) (λ box. absurd (aux_unrefused files other run (sym same) file place rule box.reads second)) rest) k
 
       at_box : RefusesBox (Some files) run file place rule → RefusesText (Some files) other file' place' rule' → BadText file place rule ≡ BadText file' place' rule'
       at_box third k =
           ⊎_elim (λ mps. absurd (mps_unrefused files run other same file' place' rule' third.reads.mps mps))
-          (λ rest. ⊎_elim (λ aux. absurd (aux_unrefused files run other same file' place' rule' third.reads aux)) (λ box. same_refusal file file' place place' rule rule' (mps_name third.named box.named) third.not_yet box.not_yet) rest) k
+          (λ rest. ⊎_elim (λ aux. absurd (aux_unrefused files run other same file' place' rule' third.reads aux)) (λ box. same_refusal file file' place place' rule rule' (mps_name third.named box.named) (not_yet_once place place' rule rule' third.not_yet box.not_yet)) rest) k
 
   one_missing : IsMissing (Some files) run file → IsMissing (Some files) other file' → file ≡ file'
   one_missing h k =

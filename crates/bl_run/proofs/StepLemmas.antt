@@ -1,6 +1,6 @@
 -- From the steps of `solve` to how it ended.
 use Rattle.std.proofs.Common.{◌≡◌, ℕ, suc, ◌<◌, ◌≤◌, List, [], length, replicate, arith, refl, sym, subst, ◌∙◌, inl, inr}
-use Rattle.std.specs.Prelude.{pos, Option, None, Some}
+use Rattle.std.specs.Prelude.{pos, Option, None, Some, codes}
 use Rattle.std.proofs.lemmas.List.{length-replicate}
 use Rattle.bl_outer.specs.Count.{Grew}
 use Rattle.bl_outer.specs.Files.{Files, IfTold, Holds, IsAbsent, Told}
@@ -10,6 +10,8 @@ use Rattle.bl_outer.specs.Sink.{SinkState, Adds, AddsPrefix}
 use Rattle.bl_limits.specs.declared.TheConstants.{MAX_TEXT_BYTES, MAX_WALK_POINTS}
 use Rattle.bl_raw.specs.declared.raw.RawMps.{RawMps}
 use Rattle.bl_raw.specs.declared.raw.RawAux.{RawAux}
+use Rattle.bl_aux.specs.declared.fault.AuxRule.TheVariants.{TooLong}
+use Rattle.bl_aux.specs.Texts.{too_long}
 use Rattle.bl_model.specs.Build.{program_of}
 use Rattle.bl_terms.specs.Programs.{root}
 use Rattle.bl_terms.specs.Trees.{point_count}
@@ -18,22 +20,48 @@ use Rattle.bl_run.specs.declared.status.Answer.TheVariants as answer
 use Rattle.bl_run.specs.declared.status.Failure.{Failure}
 use Rattle.bl_run.specs.declared.status.Failure.TheVariants as failure
 use Rattle.bl_run.specs.Words.{SolveWords, AreSolveWords, AreRefused}
-use Rattle.bl_run.specs.Texts.{IsMpsText, IsAuxText}
+use Rattle.bl_run.specs.Texts.{IsMpsText, IsMpsFault, IsAuxText, IsAuxFault}
 use Rattle.bl_run.specs.Report.{Statement}
 use Rattle.bl_run.specs.Report as report
-use Rattle.bl_run.specs.Endings.{Ending, Done, NoPoint, BadWords, BadText, NodesSpent, FollowerSpent, ReadFault, WriteFault, OutOfMemory, NotAccepted, Missing, ManyPoints, ToOutput}
+use Rattle.bl_run.specs.Endings.{Place, AsWhole, Ending, Done, NoPoint, BadWords, BadText, NodesSpent, FollowerSpent, ReadFault, WriteFault, OutOfMemory, NotAccepted, Missing, ManyPoints, ToOutput}
 use Rattle.bl_run.specs.Solve.{Run, Reads, ReadsMps, Solves, ending_of, IsCause}
 use Rattle.bl_run.specs.Promise.{Outside, HasCause, CountsReadFault, CountsMiss, Leaves}
-use Rattle.bl_run.specs.Steps.{answer_ending, failure_ending, ReadsTo, HasText, FailsToRead, IsTooLong, IsBadMps, IsBadAux, IsReport, FailsToSolve, Ends, EndsCommand}
+use Rattle.bl_run.specs.Steps.{answer_ending, failure_ending, ReadsTo, HasText, FailsToRead, NoFault, IsTooLong, IsReport, FailsToSolve, Ends, EndsCommand}
 
 -- there is a longer text than any limit
 some_longer : (limit : ℕ) → (text : List ℕ) × (limit < length text)
 some_longer limit = (replicate (suc limit) 0, simp length-replicate (omega arith))
 
 -- a file that was cut off has a text that is too long
-pub too_long : (files : Option Files) (name text : List ℕ) → IfTold files (IsTruncated name MAX_TEXT_BYTES text) → HasText files name IsTooLong
-too_long None name text h = record { text = (some_longer MAX_TEXT_BYTES).0; held = tt; is = (some_longer MAX_TEXT_BYTES).1 }
-too_long (Some told) name text h = record { text = h.bytes; held = h.held; is = h.longer }
+pub cut_off : (files : Option Files) (name text : List ℕ) → IfTold files (IsTruncated name MAX_TEXT_BYTES text) → HasText files name IsTooLong
+cut_off None name text h = record { text = (some_longer MAX_TEXT_BYTES).0; held = tt; is = (some_longer MAX_TEXT_BYTES).1 }
+cut_off (Some told) name text h = record { text = h.bytes; held = h.held; is = h.longer }
+
+-- what a file that wasn't read at all says of any text that is refused
+pub unread : (files : Option Files) (name : List ℕ) (Bad : List ℕ → Place → List ℕ → Type 0) (failure : Failure) → FailsToRead files name NoFault failure → FailsToRead files name Bad failure
+unread files name Bad failure.Words h = h
+unread files name Bad (failure.Text file fault) h = absurd h.1.is
+unread files name Bad (failure.ReadFault file) h = h
+unread files name Bad failure.WriteFault h = h
+unread files name Bad failure.Memory h = h
+unread files name Bad (failure.Missing file) h = h
+
+-- a text that is too long isn't in the first form
+pub mps_too_long : (files : Option Files) (name : List ℕ) → HasText files name IsTooLong → HasText files name (λ text. IsMpsFault text AsWhole (codes "NotYet"))
+mps_too_long files name h = record {
+  text = h.text;
+  held = h.held;
+  is = record { unread = λ form. let size = form.size in let longer = h.is in omega arith; not_yet = (refl, refl) };
+}
+
+-- a text that is too long breaks that rule of an auxiliary text
+pub aux_too_long : (files : Option Files) (name : List ℕ) (mps : RawMps) (place : Place) (rule : List ℕ) → place ≡ AsWhole → rule ≡ codes "TooLong" → HasText files name IsTooLong
+    → HasText files name (λ text. IsAuxFault mps text place rule)
+aux_too_long files name mps place rule at by_rule h = record {
+  text = h.text;
+  held = h.held;
+  is = record { fault = record { rule = TooLong; line = 0 }; first = too_long h.is refl; at = at; by_rule = by_rule };
+}
 
 -- what counts at an ending, after a part in which no reading failed
 module _ (old middle new : ShelfState) (quiet : NoReadFault old middle) where
@@ -82,7 +110,7 @@ IsUnwritten _ = Unit {0}
 left : (run : Run) (old new : ShelfState) (out : SinkState) (failure : Failure) → IsUnwritten failure → ReadsTo (failure_ending failure) old new
     → Leaves run (failure_ending failure) (record { files = old; out = out }) (record { files = new; out = out })
 left run old new out failure.Words is h = record { printed = refl; read_faults = h.read_faults; misses = h.misses; write_faults = (h.reads.write_faults, refl); files = h.reads.contents }
-left run old new out (failure.NotYet file) is h = record { printed = refl; read_faults = h.read_faults; misses = h.misses; write_faults = (h.reads.write_faults, refl); files = h.reads.contents }
+left run old new out (failure.Text file fault) is h = record { printed = refl; read_faults = h.read_faults; misses = h.misses; write_faults = (h.reads.write_faults, refl); files = h.reads.contents }
 left run old new out (failure.ReadFault file) is h = record { printed = refl; read_faults = h.read_faults; misses = h.misses; write_faults = (h.reads.write_faults, refl); files = h.reads.contents }
 left run old new out failure.WriteFault is h = absurd is
 left run old new out failure.Memory is h = record { printed = refl; read_faults = h.read_faults; misses = h.misses; write_faults = (h.reads.write_faults, refl); files = h.reads.contents }
@@ -99,11 +127,11 @@ module _ (asked : SolveWords) (old new : ShelfState) (out : SinkState) where
   ended_by run failure words is cause h = record { run = run; words = words; cause = cause; leaves = left run old new out failure is h }
 
   -- the MPS file wasn't read
-  pub mps_stops : (failure : Failure) → FailsToRead old.contents asked.mps IsBadMps failure → ReadsTo (failure_ending failure) old new
+  pub mps_stops : (failure : Failure) → FailsToRead old.contents asked.mps IsMpsFault failure → ReadsTo (failure_ending failure) old new
       → Ends asked (record { files = old; out = out }) (record { files = new; out = out }) (failure_ending failure)
   mps_stops failure.Words why h = absurd why
-  mps_stops (failure.NotYet file) why h =
-      ended_by (record (run_of asked) { mps_text = why.1.text }) (failure.NotYet file) refl tt (inl (record { named = why.0; held = why.1.held; fault = why.1.is })) h
+  mps_stops (failure.Text file fault) why h =
+      ended_by (record (run_of asked) { mps_text = why.1.text }) (failure.Text file fault) refl tt (inl (record { named = why.0; held = why.1.held; fault = why.1.is })) h
   mps_stops (failure.ReadFault file) why h = ended_by (run_of asked) (failure.ReadFault file) refl tt (inl why) h
   mps_stops failure.WriteFault why h = absurd why
   mps_stops failure.Memory why h = ended_by (run_of asked) failure.Memory refl tt tt h
@@ -118,11 +146,11 @@ module _ (asked : SolveWords) (old middle new : ShelfState) (out : SinkState) (m
   reads_mps : ReadsMps old.contents read_run
   reads_mps = record { held = read.held; says = read.is }
 
-  stopped : (failure : Failure) → FailsToRead old.contents asked.aux (IsBadAux mps) failure → ReadsTo (failure_ending failure) old new
+  stopped : (failure : Failure) → FailsToRead old.contents asked.aux (IsAuxFault mps) failure → ReadsTo (failure_ending failure) old new
       → Ends asked (record { files = old; out = out }) (record { files = new; out = out }) (failure_ending failure)
   stopped failure.Words why h = absurd why
-  stopped (failure.NotYet file) why h =
-      ended_by asked old new out (record read_run { aux_text = why.1.text }) (failure.NotYet file) refl tt
+  stopped (failure.Text file fault) why h =
+      ended_by asked old new out (record read_run { aux_text = why.1.text }) (failure.Text file fault) refl tt
       (inr (inl (record { named = why.0; mps = record { held = read.held; says = read.is }; held = why.1.held; fault = why.1.is }))) h
   stopped (failure.ReadFault file) why h = ended_by asked old new out read_run (failure.ReadFault file) refl tt (inr (why, reads_mps)) h
   stopped failure.WriteFault why h = absurd why
@@ -130,10 +158,10 @@ module _ (asked : SolveWords) (old middle new : ShelfState) (out : SinkState) (m
   stopped (failure.Missing file) why h =
       ended_by asked old new out read_run (failure.Missing file) refl tt (record { next = inr (why.0, reads_mps); absent = named_absent old.contents asked.aux file.now why.0 why.1 }) h
 
-  pub aux_stops : (failure : Failure) → FailsToRead middle.contents asked.aux (IsBadAux mps) failure → ReadsTo (failure_ending failure) middle new
+  pub aux_stops : (failure : Failure) → FailsToRead middle.contents asked.aux (IsAuxFault mps) failure → ReadsTo (failure_ending failure) middle new
       → Ends asked (record { files = old; out = out }) (record { files = new; out = out }) (failure_ending failure)
   aux_stops failure why h =
-      stopped failure (subst (λ (files : Option Files). FailsToRead files asked.aux (IsBadAux mps) failure) quiet.reads.contents why)
+      stopped failure (subst (λ (files : Option Files). FailsToRead files asked.aux (IsAuxFault mps) failure) quiet.reads.contents why)
       (reads_then old middle new (failure_ending failure) quiet h)
 
 -- both texts were read
@@ -157,9 +185,9 @@ module _ (asked : SolveWords) (old middle new : ShelfState) (mps : RawMps) (aux 
   pub solving_stops : (out : SinkState) (failure : Failure) → FailsToSolve asked.mps mps aux failure
       → Ends asked (record { files = old; out = out }) (record { files = new; out = out }) (failure_ending failure)
   solving_stops out failure.Words why = absurd why
-  solving_stops out (failure.NotYet file) why =
-      ended_by asked old new out (both_run report.None) (failure.NotYet file) refl tt
-      (inr (inr (record { named = why.0; reads = reads_both report.None; large = why.1; not_yet = (refl, refl) })))
+  solving_stops out (failure.Text file fault) why =
+      ended_by asked old new out (both_run report.None) (failure.Text file fault) refl tt
+      (inr (inr (record { named = why.0; reads = reads_both report.None; large = why.2; not_yet = why.1 })))
       (record { reads = all_read.reads; read_faults = all_read.read_faults; misses = all_read.misses })
   solving_stops out (failure.ReadFault file) why = absurd why
   solving_stops out failure.WriteFault why = absurd why

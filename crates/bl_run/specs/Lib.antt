@@ -1,5 +1,4 @@
 -- Trusted: what a caller has to believe of the program's words, texts, endings, report and promise.
-pub mod AuxText
 pub mod Endings
 pub mod Promise
 pub mod Report
@@ -7,5 +6,4 @@ pub mod Solve
 pub mod Texts
 pub mod Words
 -- Internal: what private calls promise one another.
-pub mod AuxParts
 pub mod Steps

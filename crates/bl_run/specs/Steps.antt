@@ -1,9 +1,11 @@
 -- Internal: what the private calls of a command promise one another.
-use Rattle.std.specs.Prelude.{◌≡◌, ℕ, ◌<◌, List, length, Option, Ok, Err, ⊤, codes}
+use Rattle.std.specs.Prelude.{◌≡◌, ℕ, ◌<◌, List, ◌++◌, length, Option, Ok, Err, ⊤, codes}
 use Rattle.std.specs.declared.result.Result.{Result}
-use Rattle.bl_outer.specs.Files.{Files, IfTold, IsAbsent}
+use Rattle.bl_outer.specs.Count.{Grew}
+use Rattle.bl_outer.specs.Files.{Files, IfTold, Told, IsAbsent}
 use Rattle.bl_outer.specs.Files as outer
 use Rattle.bl_outer.specs.Shelf.{ShelfState, OnlyReads}
+use Rattle.bl_outer.specs.Sink.{SinkState, Adds, AddsPrefix}
 use Rattle.bl_raw.specs.declared.raw.RawColumn.{RawColumn}
 use Rattle.bl_raw.specs.declared.raw.RawMps.{RawMps}
 use Rattle.bl_raw.specs.declared.raw.RawAux.{RawAux}
@@ -15,12 +17,20 @@ use Rattle.bl_run.specs.declared.status.Answer.TheVariants as answer
 use Rattle.bl_run.specs.declared.status.Failure.{Failure}
 use Rattle.bl_run.specs.declared.status.Failure.TheVariants as failure
 use Rattle.bl_run.specs.Words.{SolveWords}
-use Rattle.bl_run.specs.Texts.{IsMpsFault, IsAuxFault}
-use Rattle.bl_run.specs.Endings.{AsWhole, ToOutput, Ending, Done, NoPoint, BadWords, BadText, ReadFault, WriteFault, OutOfMemory, Missing}
+use Rattle.bl_run.specs.Texts.{IsNotYet}
+use Rattle.bl_run.specs.declared.fault.TextFault.{TextFault}
+use Rattle.bl_run.specs.declared.fault.Place as place
+use Rattle.bl_run.specs.declared.fault.Place.TheVariants as variant
+use Rattle.bl_run.specs.Endings.{Place, AtLine, AsWhole, ToOutput, Ending, Done, NoPoint, BadWords, BadText, ReadFault, WriteFault, OutOfMemory, Missing, place_text, file_line}
 use Rattle.bl_run.specs.Report.{Statement, Holds, report_of}
 use Rattle.bl_run.specs.Solve.{Run, ending_of, IsCause}
 use Rattle.bl_run.specs.Promise.{Outside, HasCause, CountsReadFault, CountsMiss, Leaves}
 use Rattle.bl_limits.specs.declared.TheConstants.{MAX_TEXT_BYTES, MAX_WALK_POINTS}
+
+-- the place of a fault
+abbrev pub place_of : place.Place → Place
+place_of (variant.Line line) = AtLine line
+place_of variant.Whole = AsWhole
 
 -- the ending with an answer
 abbrev pub answer_ending : Answer → Ending
@@ -30,11 +40,24 @@ answer_ending answer.Infeasible = NoPoint
 -- the ending with a failure
 abbrev pub failure_ending : Failure → Ending
 failure_ending failure.Words = BadWords
-failure_ending (failure.NotYet file) = BadText file.now AsWhole (codes "NotYet")
+failure_ending (failure.Text file fault) = BadText file.now (place_of fault.place) fault.rule.now
 failure_ending (failure.ReadFault file) = ReadFault file.now
 failure_ending failure.WriteFault = WriteFault ToOutput
 failure_ending failure.Memory = OutOfMemory
 failure_ending (failure.Missing file) = Missing file.now
+
+-- the rule that a text breaks, with its place and the end of its line
+abbrev pub rule_line : TextFault → List ℕ
+rule_line fault = place_text (place_of fault.place) ++ (fault.rule.now ++ codes "\n")
+
+-- the line on a text that breaks a rule
+abbrev pub fault_line : List ℕ → TextFault → List ℕ
+fault_line file fault = file_line file (place_text (place_of fault.place) ++ fault.rule.now)
+
+-- a line was put, or some first bytes of it and the fault was counted
+abbrev pub Puts : {T E : Type 0} → List ℕ → SinkState → SinkState → Result T E → Type 0
+Puts line old new (Ok _) = Told (Adds line) old.bytes new.bytes × (new.faults ≡ old.faults)
+Puts line old new (Err _) = Told (AddsPrefix line) old.bytes new.bytes × Grew old.faults new.faults
 
 -- the ending with what a command answers
 abbrev pub result_ending : Result Answer Failure → Ending
@@ -58,26 +81,22 @@ pub record HasText (files : Option Files) (name : List ℕ) (P : List ℕ → Ty
   pub held : IfTold files (λ told. outer.Holds told name text)
   pub is : P text
 
--- why the file of this name isn't read, where texts of which Bad holds are refused
-abbrev pub FailsToRead : Option Files → List ℕ → (List ℕ → Type 0) → Failure → Type 0
+-- why the file of this name isn't read, where a text is refused at a place and by a rule of which Bad holds
+abbrev pub FailsToRead : Option Files → List ℕ → (List ℕ → Place → List ℕ → Type 0) → Failure → Type 0
 FailsToRead files name Bad failure.Words = ⊥
-FailsToRead files name Bad (failure.NotYet file) = (file.now ≡ name) × HasText files name Bad
+FailsToRead files name Bad (failure.Text file fault) = (file.now ≡ name) × HasText files name (λ text. Bad text (place_of fault.place) fault.rule.now)
 FailsToRead files name Bad (failure.ReadFault file) = file.now ≡ name
 FailsToRead files name Bad failure.WriteFault = ⊥
 FailsToRead files name Bad failure.Memory = ⊤
 FailsToRead files name Bad (failure.Missing file) = (file.now ≡ name) × IfTold files (λ told. IsAbsent told name)
 
+-- no text is refused
+abbrev pub NoFault : List ℕ → Place → List ℕ → Type 0
+NoFault text place rule = ⊥
+
 -- the text has more bytes than are read
 abbrev pub IsTooLong : List ℕ → Type 0
 IsTooLong text = MAX_TEXT_BYTES < length text
-
--- the text isn't an MPS text that is read
-abbrev pub IsBadMps : List ℕ → Type 0
-IsBadMps text = IsMpsFault text AsWhole (codes "NotYet")
-
--- the text isn't an auxiliary text of the model
-abbrev pub IsBadAux : RawMps → List ℕ → Type 0
-IsBadAux mps text = IsAuxFault mps text AsWhole (codes "NotYet")
 
 -- the text reports this answer by a statement that holds of the program
 pub record IsReport (columns : List RawColumn) (p : Program) (answer : Answer) (text : List ℕ) : Type 0 where
@@ -89,7 +108,8 @@ pub record IsReport (columns : List RawColumn) (p : Program) (answer : Answer) (
 -- why a model and its follower have no report: the box has too many points, for which the MPS file is named, or there is no memory
 abbrev pub FailsToSolve : List ℕ → RawMps → RawAux → Failure → Type 0
 FailsToSolve name mps aux failure.Words = ⊥
-FailsToSolve name mps aux (failure.NotYet file) = (file.now ≡ name) × (MAX_WALK_POINTS < point_count (root (program_of mps aux)))
+FailsToSolve name mps aux (failure.Text file fault) =
+    (file.now ≡ name) × IsNotYet (place_of fault.place) fault.rule.now × (MAX_WALK_POINTS < point_count (root (program_of mps aux)))
 FailsToSolve name mps aux (failure.ReadFault file) = ⊥
 FailsToSolve name mps aux failure.WriteFault = ⊥
 FailsToSolve name mps aux failure.Memory = ⊤

@@ -1,7 +1,7 @@
 //! The program's commands.
 #![tactic(auto)]
 
-mod aux_text;
+mod fault;
 mod report;
 mod solve;
 mod status;

@@ -1,7 +1,7 @@
 //! The command `solve`.
 
-ghost use Rattle.std.specs.Prelude.{◌≡◌, ◌↔◌, ◌<◌, ◌≤◌, ◌+ℤ◌, ◌-ℤ◌, ◌*ℤ◌, ◌≤ℤ◌, pos, length, unsigned_abs, vec_len, IfOk, IfErr, IsTrue};
-ghost use Rattle.bl_limits.specs.declared.TheConstants.{MAX_NUMBER, MAX_TEXT_BYTES, MAX_WALK_POINTS};
+ghost use Rattle.std.specs.Prelude.{◌≡◌, ◌↔◌, ◌<◌, ◌≤◌, ◌+ℤ◌, ◌-ℤ◌, ◌*ℤ◌, ◌≤ℤ◌, pos, length, unsigned_abs, IfOk, IfErr, IsTrue, MatchOption};
+ghost use Rattle.bl_limits.specs.declared.TheConstants.{MAX_NUMBER, MAX_WALK_POINTS};
 ghost use Rattle.bl_whole.specs.Within.{IsWithin};
 ghost use Rattle.bl_outer.specs.Files.{Holds, IfTold};
 ghost use Rattle.bl_terms.specs.Programs.{root, InBox, follower_at, columns as column_count};
@@ -9,13 +9,14 @@ ghost use Rattle.bl_plain.specs.Walk.{IsAnswer};
 ghost use Rattle.bl_terms.specs.Trees.{point_count};
 ghost use Rattle.bl_raw.specs.Raw.{IsRawModel, FitsModel};
 ghost use Rattle.bl_model.specs.Build.{program_of};
-ghost use Rattle.bl_run.specs.Texts.{IsMpsText, IsAuxText};
-ghost use Rattle.bl_run.specs.Steps.{result_ending, OnlyCounts, HasText, FailsToRead, IsTooLong, IsBadMps, IsBadAux, IsReport, FailsToSolve, Ends};
+ghost use Rattle.bl_run.specs.Texts.{IsMpsText, IsMpsFault, IsAuxText, IsAuxFault};
+ghost use Rattle.bl_run.specs.Steps.{result_ending, OnlyCounts, HasText, FailsToRead, NoFault, IsTooLong, IsReport, FailsToSolve, Ends};
 
-use crate::aux_text::read_aux_first;
+use crate::fault::{TextFault, aux_fault};
 use crate::report::{INFEASIBLE, optimal_report};
 use crate::status::{Answer, Failure};
 use crate::words::SolveWords;
+use bl_aux::{AuxError, AuxFault, AuxRule};
 use bl_limits::{MAX_TEXT_BYTES, MAX_WALK_POINTS};
 use bl_model::{Bilevel, build};
 use bl_mps::read_first;
@@ -23,6 +24,11 @@ use bl_outer::{Got, ReadFail, Shelf, Sink, read_text};
 use bl_plain::{Optimum, plain_best};
 use bl_raw::{RawAux, RawColumn, RawMps};
 use std::alloc::{AllocError, Global};
+
+const AUX_TOO_LONG: AuxFault = AuxFault {
+    rule: AuxRule::TooLong,
+    line: 0,
+};
 
 /// An answer and its text.
 #[derive(Drop)]
@@ -57,14 +63,17 @@ fn read_mps<'a, F: Shelf>(
     name: &'a str,
 ) -> Result<RawMps, Failure<'a>>
     ensures limits { IfOk result IsRawModel }
-    ensures read { IfOk result (λ mps. HasText (F.state files.old).contents name.now (λ text. IsMpsText text mps)) }
-    ensures failed { IfErr result (FailsToRead (F.state files.old).contents name.now IsBadMps) }
+    ensures read { IfOk result (λ mps.
+        HasText (F.state files.old).contents name.now (λ text. IsMpsText text mps)) }
+    ensures failed { IfErr result (FailsToRead (F.state files.old).contents name.now IsMpsFault) }
     ensures counts { OnlyCounts (F.state files.old) (F.state files.new) result }
 {
-    let text = read_file(alloc, files, name)?;
+    let Some(text) = read_file(alloc, files, name)? else {
+        return Err(Failure::Text(name, TextFault::NOT_YET));
+    };
     match read_first(alloc, &text)? {
         Some(mps) => Ok(mps),
-        None => Err(Failure::NotYet(name)),
+        None => Err(Failure::Text(name, TextFault::NOT_YET)),
     }
 }
 
@@ -77,34 +86,39 @@ fn read_aux<'a, F: Shelf>(
 ) -> Result<RawAux, Failure<'a>>
     requires { IsRawModel mps.now }
     ensures fits { IfOk result (FitsModel (length mps.now.columns) (length mps.now.rows)) }
-    ensures read { IfOk result (λ aux. HasText (F.state files.old).contents name.now (λ text. IsAuxText mps.now text aux)) }
-    ensures failed { IfErr result (FailsToRead (F.state files.old).contents name.now (IsBadAux mps.now)) }
+    ensures read { IfOk result (λ aux.
+        HasText (F.state files.old).contents name.now (λ text. IsAuxText mps.now text aux)) }
+    ensures failed { IfErr result (FailsToRead (F.state files.old).contents name.now (IsAuxFault mps.now)) }
     ensures counts { OnlyCounts (F.state files.old) (F.state files.new) result }
 {
-    let text = read_file(alloc, files, name)?;
-    let column_count = mps.columns.as_slice().len();
-    let row_count = mps.rows.as_slice().len();
-    match read_aux_first(alloc, &text, column_count, row_count)? {
-        Some(aux) => Ok(aux),
-        None => Err(Failure::NotYet(name)),
+    let Some(text) = read_file(alloc, files, name)? else {
+        return Err(Failure::Text(name, aux_fault(AUX_TOO_LONG)));
+    };
+    let columns = mps.columns.as_slice().len() as u32;
+    let rows = mps.rows.as_slice().len() as u32;
+    match bl_aux::read_aux(alloc, &text, columns, rows) {
+        Ok(aux) => Ok(aux),
+        Err(AuxError::Fault(fault)) => Err(Failure::Text(name, aux_fault(fault))),
+        Err(AuxError::Memory) => Err(Failure::Memory),
     }
 }
 
-/// Reads the whole file, where it isn't too long.
+/// Reads the whole file, or nothing where it has more bytes than are read.
 fn read_file<'a, F: Shelf>(
     alloc: Global,
     files: &mut F,
     name: &'a str,
-) -> Result<Vec<u8>, Failure<'a>>
-    ensures read { IfOk result (λ text. IfTold (F.state files.old).contents (λ told. Holds told name.now text.items)) }
-    ensures short { IfOk result (λ text. vec_len text ≤ MAX_TEXT_BYTES) }
-    ensures failed { IfErr result (FailsToRead (F.state files.old).contents name.now IsTooLong) }
+) -> Result<Option<Vec<u8>>, Failure<'a>>
+    ensures read { IfOk result (λ found. MatchOption found
+        (HasText (F.state files.old).contents name.now IsTooLong)
+        (λ text. IfTold (F.state files.old).contents (λ told. Holds told name.now text.items))) }
+    ensures failed { IfErr result (FailsToRead (F.state files.old).contents name.now NoFault) }
     ensures counts { OnlyCounts (F.state files.old) (F.state files.new) result }
 {
     let mut text = Vec::new(alloc);
     match read_text(files, name, MAX_TEXT_BYTES as u64, &mut text) {
-        Ok(Got::Whole) => Ok(text),
-        Ok(Got::Longer) => Err(Failure::NotYet(name)),
+        Ok(Got::Whole) => Ok(Some(text)),
+        Ok(Got::Longer) => Ok(None),
         Ok(Got::Missing) => Err(Failure::Missing(name)),
         Err(ReadFail::Failed) => Err(Failure::ReadFault(name)),
         Err(ReadFail::Memory) => Err(Failure::Memory),
@@ -127,7 +141,7 @@ fn solve_model<'a>(
 {
     let model = build(alloc, mps, aux)?;
     if !is_walkable(&model) {
-        return Err(Failure::NotYet(name));
+        return Err(Failure::Text(name, TextFault::NOT_YET));
     }
     let found = plain_best(alloc, &model)?;
     Ok(report_of(alloc, mps.columns.as_slice(), &model, &found)?)

@@ -1,12 +1,11 @@
 //! How the program ends.
 
-ghost use Rattle.std.specs.Prelude.{◌≡◌, map, OnOk, OnErr};
 ghost use Rattle.std.specs.List.{flat_map};
-ghost use Rattle.bl_outer.specs.Count.{HasCause};
-ghost use Rattle.bl_outer.specs.Files.{Told};
-ghost use Rattle.bl_outer.specs.Sink.{Adds, AddsPrefix};
+ghost use Rattle.bl_run.specs.Steps.{Puts, fault_line, rule_line};
 
+use crate::fault::{Place, TextFault};
 use bl_outer::{Sink, SinkFail};
+use itoa::Buffer;
 use std::alloc::AllocError;
 
 /// The exit status. `run` says which comes when.
@@ -39,7 +38,7 @@ impl Answer {
 #[derive(Clone, Copy, Debug)]
 pub(crate) enum Failure<'a> {
     Words,
-    NotYet(&'a str),
+    Text(&'a str, TextFault),
     ReadFault(&'a str),
     WriteFault,
     Memory,
@@ -79,7 +78,7 @@ impl Failure<'_> {
     {
         Status(match self {
             Failure::Words => 2,
-            Failure::NotYet(_) => 3,
+            Failure::Text(_, _) => 3,
             Failure::ReadFault(_) => 6,
             Failure::WriteFault => 7,
             Failure::Memory => 8,
@@ -93,7 +92,7 @@ impl Failure<'_> {
     {
         let _ = match self {
             Failure::Words => put_all(err, &[b"mibs: words not understood\n"]),
-            Failure::NotYet(file) => put_all(err, &[b"mibs: ", file.as_bytes(), b": NotYet\n"]),
+            Failure::Text(file, fault) => tell_fault(err, file, fault),
             Failure::ReadFault(file) => put_all(
                 err,
                 &[b"mibs: read fault: ", file.as_bytes(), b"\n"],
@@ -105,13 +104,31 @@ impl Failure<'_> {
     }
 }
 
+/// Prints the line on a text that breaks a rule.
+fn tell_fault<E: Sink>(err: &mut E, file: &str, fault: TextFault) -> Result<(), SinkFail>
+    ensures { Puts (fault_line file.now fault) (E.state err.old) (E.state err.new) result }
+{
+    put_all(err, &[b"mibs: ", file.as_bytes(), b": "])?;
+    put_rule(err, fault)
+}
+
+fn put_rule<E: Sink>(err: &mut E, fault: TextFault) -> Result<(), SinkFail>
+    ensures { Puts (rule_line fault) (E.state err.old) (E.state err.new) result }
+{
+    let rule = fault.rule.as_bytes();
+    match fault.place {
+        Place::Whole => put_all(err, &[rule, b"\n"]),
+        Place::Line(line) => {
+            let mut digits = Buffer::new();
+            let line = digits.format(line).as_bytes();
+            put_all(err, &[b"line ", line, b": ", rule, b"\n"])
+        }
+    }
+}
+
 /// Puts the pieces in order, up to the first that isn't taken.
 fn put_all<E: Sink>(err: &mut E, pieces: &[&[u8]]) -> Result<(), SinkFail>
-    ensures ok { OnOk result (Told (Adds (flat_map (λ piece. piece.now) pieces.now))
-        (E.state err.old).bytes (E.state err.new).bytes) }
-    ensures err { OnErr result (Told (AddsPrefix (flat_map (λ piece. piece.now) pieces.now))
-        (E.state err.old).bytes (E.state err.new).bytes) }
-    ensures fault { HasCause (E.state err.old).faults (E.state err.new).faults result }
+    ensures { Puts (flat_map (λ piece. piece.now) pieces.now) (E.state err.old) (E.state err.new) result }
 {
     for piece in pieces {
         err.put(piece)?;

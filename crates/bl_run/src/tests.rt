@@ -40,7 +40,7 @@ struct Case {
 
 const NO_FOLLOWER: &str = "N 0\nM 0\nOS 1\n";
 
-const CASES: [Case; 12] = [
+const CASES: [Case; 14] = [
     Case {
         name: "Moore and Bard",
         mps: MOORE_BARD,
@@ -135,7 +135,23 @@ const CASES: [Case; 12] = [
         aux: "M 0\nN 0\nOS 1\n",
         status: 3,
         report: Report::Is(""),
-        err: "mibs: m.aux: NotYet\n",
+        err: "mibs: m.aux: line 1: OutOfOrder\n",
+    },
+    Case {
+        name: "a follower's column that is given twice",
+        mps: ALONE,
+        aux: "N 1\nM 0\nLC 1\nLC 1\n",
+        status: 3,
+        report: Report::Is(""),
+        err: "mibs: m.aux: line 4: Repeated\n",
+    },
+    Case {
+        name: "a cost that is missing",
+        mps: ALONE,
+        aux: "N 1\nM 0\nLC 1\n",
+        status: 3,
+        report: Report::Is(""),
+        err: "mibs: m.aux: CountDiffers\n",
     },
     Case {
         name: "more than a million points",
