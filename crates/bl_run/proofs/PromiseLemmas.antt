@@ -17,8 +17,8 @@ use Rattle.bl_run.specs.declared.status.Answer.TheVariants as answer
 use Rattle.bl_run.specs.Words.{SolveWords, AreSolveWords, AreRefused}
 use Rattle.bl_run.specs.Texts.{IsMpsText, IsAuxText, IsAuxFault, IsNotYet, sizes, aux_rule, line_place}
 use Rattle.bl_run.specs.Endings.{Place, AsWhole, Ending, Done, NoPoint, BadWords, BadText, NodesSpent, FollowerSpent, ReadFault, WriteFault, OutOfMemory, NotAccepted, Missing, ManyPoints, ToFile, ToOutput, status_of, line_of}
-use Rattle.bl_run.specs.Solve.{Run, program, HasMps, HasAux, Reads, ReadsMps, RefusesMps, RefusesAux, RefusesBox, RefusesText, IsMissing}
-use Rattle.bl_run.specs.Promise.{Outside, HasCause, ComesFirst, IsAnswer, IsDue, Tells, Promise}
+use Rattle.bl_run.specs.Solve.{Run, program, HasMps, HasAux, ReadsBoth, ReadsMps, RefusesMps, RefusesAux, RefusesBox, RefusesText, IsMissing}
+use Rattle.bl_run.specs.Promise.{Outside, HasCause, ComesFirst, EndsInAnswer, IsDue, Tells, Promise}
 use Rattle.bl_run.specs.Steps.{answer_ending, EndsCommand}
 
 some_is : (x y : List ℕ) → Some x ≡ Some y → x ≡ y
@@ -83,26 +83,26 @@ module _ (files : Files) (run other : Run) (same : run.words ≡ other.words) wh
   mps_unrefused file place rule h k =
       k.fault.unread (subst (λ (text : List ℕ). IsMpsText text run.mps) (one_mps_text h.held k.held) h.says).0
 
-  aux_unrefused : (file : List ℕ) (place : Place) (rule : List ℕ) → Reads (Some files) run → RefusesAux (Some files) other file place rule → ⊥
+  aux_unrefused : (file : List ℕ) (place : Place) (rule : List ℕ) → ReadsBoth (Some files) run → RefusesAux (Some files) other file place rule → ⊥
   aux_unrefused file place rule h k =
       tells_one.apart (sizes other.mps) other.aux_text run.aux k.fault.fault
       (subst (λ (mps : RawMps). IsAuxText mps other.aux_text run.aux) (one_mps h.mps k.mps)
       (subst (λ (text : List ℕ). IsAuxText run.mps text run.aux) (one_aux_text h.held k.held) h.says))
       k.fault.first
 
-  box_unrefused : (file : List ℕ) (place : Place) (rule : List ℕ) → Reads (Some files) run → point_count (root (program run)) ≤ MAX_WALK_POINTS → RefusesBox (Some files) other file place rule → ⊥
+  box_unrefused : (file : List ℕ) (place : Place) (rule : List ℕ) → ReadsBoth (Some files) run → point_count (root (program run)) ≤ MAX_WALK_POINTS → RefusesBox (Some files) other file place rule → ⊥
   box_unrefused file place rule h few k =
       let large : MAX_WALK_POINTS < point_count (root (program_of run.mps other.aux)) =
       subst (λ (mps : RawMps). MAX_WALK_POINTS < point_count (root (program_of mps other.aux))) (sym (one_mps h.mps k.reads.mps)) k.large in
       omega (arith, large, few, one_box run.mps run.aux other.aux)
 
   -- texts that are read aren't refused, and their files aren't missing
-  unrefused : (file : List ℕ) (place : Place) (rule : List ℕ) → Reads (Some files) run → point_count (root (program run)) ≤ MAX_WALK_POINTS → RefusesText (Some files) other file place rule → ⊥
+  unrefused : (file : List ℕ) (place : Place) (rule : List ℕ) → ReadsBoth (Some files) run → point_count (root (program run)) ≤ MAX_WALK_POINTS → RefusesText (Some files) other file place rule → ⊥
   unrefused file place rule h few k =
       ⊎_elim (mps_unrefused file place rule h.mps)
       (λ later. ⊎_elim (aux_unrefused file place rule h) (box_unrefused file place rule h few) later) k
 
-  unmissed : (file : List ℕ) → Reads (Some files) run → IsMissing (Some files) other file → ⊥
+  unmissed : (file : List ℕ) → ReadsBoth (Some files) run → IsMissing (Some files) other file → ⊥
   unmissed file h k =
       ⊎_elim (λ named. mps_absent file h.mps.held named k.absent) (λ later. aux_absent file h.held later.0 k.absent) k.next
 
@@ -165,7 +165,7 @@ module _ (files : Files) (run other : Run) (same : run.words ≡ other.words) (f
 
 -- what is due where a cause stands
 module _ (words : List (List ℕ)) (files : Files) where
-  due_answer : (run : Run) (ending : Ending) → IsAnswer ending → AreSolveWords words run.words → Reads (Some files) run → point_count (root (program run)) ≤ MAX_WALK_POINTS → IsDue words ending files
+  due_answer : (run : Run) (ending : Ending) → EndsInAnswer ending → AreSolveWords words run.words → ReadsBoth (Some files) run → point_count (root (program run)) ≤ MAX_WALK_POINTS → IsDue words ending files
   due_answer run ending is asked reads few = record {
     refused = λ other file place rule named cause. absurd (unrefused files run other (one_command words run.words other.words asked named) file place rule reads few cause);
     missing = λ other file named cause. absurd (unmissed files run other (one_command words run.words other.words asked named) file reads cause);
@@ -240,7 +240,7 @@ pub promised : (words : List (List ℕ)) (old new : Outside) (old_err new_err : 
 promised words old new old_err new_err ending status ends is told = record {
   run = ends.run;
   ending = ending;
-  is = is;
+  status_is = is;
   cause = ends.cause;
   refused = refused words old.files.contents ends.run ending ends.cause;
   due = due words old.files.contents ends.run ending ends.cause;

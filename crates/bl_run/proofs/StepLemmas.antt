@@ -24,8 +24,8 @@ use Rattle.bl_run.specs.Texts.{IsMpsText, IsMpsFault, IsAuxText, IsAuxFault}
 use Rattle.bl_run.specs.Report.{Statement}
 use Rattle.bl_run.specs.Report as report
 use Rattle.bl_run.specs.Endings.{Place, AsWhole, Ending, Done, NoPoint, BadWords, BadText, NodesSpent, FollowerSpent, ReadFault, WriteFault, OutOfMemory, NotAccepted, Missing, ManyPoints, ToOutput}
-use Rattle.bl_run.specs.Solve.{Run, Reads, ReadsMps, Solves, ending_of, IsCause}
-use Rattle.bl_run.specs.Promise.{Outside, HasCause, CountsReadFault, CountsMiss, Leaves}
+use Rattle.bl_run.specs.Solve.{Run, ReadsBoth, ReadsMps, Solves, ending_of, IsCause}
+use Rattle.bl_run.specs.Promise.{Outside, HasCause, ReadFaultsAt, MissesAt, Leaves}
 use Rattle.bl_run.specs.Steps.{answer_ending, failure_ending, ReadsTo, HasText, FailsToRead, NoFault, IsTooLong, IsReport, FailsToSolve, Ends, EndsCommand}
 
 -- there is a longer text than any limit
@@ -68,7 +68,7 @@ module _ (old middle new : ShelfState) (quiet : NoReadFault old middle) where
   unfaulted : NoReadFault middle new → NoReadFault old new
   unfaulted h = record { read_faults = h.read_faults ∙ quiet.read_faults; faulted = h.faulted ∙ quiet.faulted }
 
-  counted_after : (ending : Ending) → CountsReadFault ending middle new → CountsReadFault ending old new
+  counted_after : (ending : Ending) → ReadFaultsAt ending middle new → ReadFaultsAt ending old new
   counted_after (ReadFault file) h = record { counted = subst (λ (n : ℕ). Grew n new.read_faults) quiet.read_faults h.counted; named = h.named }
   counted_after Done h = unfaulted h
   counted_after NoPoint h = unfaulted h
@@ -87,7 +87,7 @@ pub reads_then : (old middle new : ShelfState) (ending : Ending) → ReadsTo Don
 reads_then old middle new ending g h = record {
   reads = record { contents = h.reads.contents ∙ g.reads.contents; write_faults = h.reads.write_faults ∙ g.reads.write_faults };
   read_faults = counted_after old middle new g.read_faults ending h.read_faults;
-  misses = subst (λ (n : ℕ). CountsMiss ending n new.misses) g.misses h.misses;
+  misses = subst (λ (n : ℕ). MissesAt ending n new.misses) g.misses h.misses;
 }
 
 -- a run of which the words alone are known
@@ -171,7 +171,7 @@ module _ (asked : SolveWords) (old middle new : ShelfState) (mps : RawMps) (aux 
   abbrev both_run : Statement → Run
   both_run statement = record { words = asked; mps_text = mps_read.text; mps = mps; aux_text = aux_read.text; aux = aux; statement = statement }
 
-  reads_both : (statement : Statement) → Reads old.contents (both_run statement)
+  reads_both : (statement : Statement) → ReadsBoth old.contents (both_run statement)
   reads_both statement = record {
     mps = record { held = mps_read.held; says = mps_read.is };
     held = subst (λ (files : Option Files). IfTold files (λ told. Holds told asked.aux aux_read.text)) quiet.reads.contents aux_read.held;

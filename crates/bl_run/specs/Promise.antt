@@ -8,7 +8,7 @@ use Rattle.bl_terms.specs.Programs.{root}
 use Rattle.bl_terms.specs.Trees.{point_count}
 use Rattle.bl_run.specs.Words.{AreSolveWords, AreRefused}
 use Rattle.bl_run.specs.Endings.{Place, ToFile, ToOutput, Ending, Done, NoPoint, BadWords, BadText, ReadFault, WriteFault, OutOfMemory, Missing, status_of, line_of}
-use Rattle.bl_run.specs.Solve.{Run, program, report, Reads, RefusesText, IsMissing, IsCause}
+use Rattle.bl_run.specs.Solve.{Run, program, report, ReadsBoth, RefusesText, IsMissing, IsCause}
 use Rattle.bl_limits.specs.declared.TheConstants.{MAX_WALK_POINTS}
 
 -- what a command works on: the files and the output
@@ -28,11 +28,11 @@ ComesFirst OutOfMemory = ⊤
 ComesFirst _ = ⊥
 
 -- an answer, or the fault of writing it
-abbrev pub IsAnswer : Ending → Type 0
-IsAnswer Done = ⊤
-IsAnswer NoPoint = ⊤
-IsAnswer (WriteFault target) = ⊤
-IsAnswer _ = ⊥
+abbrev pub EndsInAnswer : Ending → Type 0
+EndsInAnswer Done = ⊤
+EndsInAnswer NoPoint = ⊤
+EndsInAnswer (WriteFault target) = ⊤
+EndsInAnswer _ = ⊥
 
 -- a cause that stands in the files gives its ending
 pub record IsDue (words : List (List ℕ)) (ending : Ending) (files : Files) : Type 0 where
@@ -41,7 +41,7 @@ pub record IsDue (words : List (List ℕ)) (ending : Ending) (files : Files) : T
   pub missing : (run : Run) (file : List ℕ)
       → AreSolveWords words run.words → IsMissing (Some files) run file → (ending ≡ Missing file) ⊎ ComesFirst ending
   pub answered : (run : Run)
-      → AreSolveWords words run.words → Reads (Some files) run → point_count (root (program run)) ≤ MAX_WALK_POINTS → IsAnswer ending ⊎ ComesFirst ending
+      → AreSolveWords words run.words → ReadsBoth (Some files) run → point_count (root (program run)) ≤ MAX_WALK_POINTS → EndsInAnswer ending ⊎ ComesFirst ending
 
 -- what the ending leaves on the output: the report, some first bytes of it, or nothing
 abbrev pub Prints : Run → Ending → Option (List ℕ) → Option (List ℕ) → Type 0
@@ -51,27 +51,27 @@ Prints run (WriteFault target) old new = Told (AddsPrefix (report run)) old new
 Prints run _ old new = new ≡ old
 
 -- a read fault is counted, and is of the file that is named; else none is
-abbrev pub CountsReadFault : Ending → ShelfState → ShelfState → Type 0
-CountsReadFault (ReadFault file) old new = FaultsOn file old new
-CountsReadFault _ old new = NoReadFault old new
+abbrev pub ReadFaultsAt : Ending → ShelfState → ShelfState → Type 0
+ReadFaultsAt (ReadFault file) old new = FaultsOn file old new
+ReadFaultsAt _ old new = NoReadFault old new
 
 -- a missing file is counted; else none is
-abbrev pub CountsMiss : Ending → ℕ → ℕ → Type 0
-CountsMiss (Missing file) old new = Grew old new
-CountsMiss _ old new = new ≡ old
+abbrev pub MissesAt : Ending → ℕ → ℕ → Type 0
+MissesAt (Missing file) old new = Grew old new
+MissesAt _ old new = new ≡ old
 
 -- a write fault of a file is counted by the files, and one of the output by the output; else none is
-abbrev pub CountsWriteFault : Ending → Outside → Outside → Type 0
-CountsWriteFault (WriteFault (ToFile name)) old new = Grew old.files.write_faults new.files.write_faults × (new.out.faults ≡ old.out.faults)
-CountsWriteFault (WriteFault ToOutput) old new = Grew old.out.faults new.out.faults × (new.files.write_faults ≡ old.files.write_faults)
-CountsWriteFault _ old new = (new.files.write_faults ≡ old.files.write_faults) × (new.out.faults ≡ old.out.faults)
+abbrev pub WriteFaultsAt : Ending → Outside → Outside → Type 0
+WriteFaultsAt (WriteFault (ToFile name)) old new = Grew old.files.write_faults new.files.write_faults × (new.out.faults ≡ old.out.faults)
+WriteFaultsAt (WriteFault ToOutput) old new = Grew old.out.faults new.out.faults × (new.files.write_faults ≡ old.files.write_faults)
+WriteFaultsAt _ old new = (new.files.write_faults ≡ old.files.write_faults) × (new.out.faults ≡ old.out.faults)
 
 -- what an ending leaves outside: what is printed, what is counted, and each file as it was
 pub record Leaves (run : Run) (ending : Ending) (old new : Outside) : Type 0 where
   pub printed : Prints run ending old.out.bytes new.out.bytes
-  pub read_faults : CountsReadFault ending old.files new.files
-  pub misses : CountsMiss ending old.files.misses new.files.misses
-  pub write_faults : CountsWriteFault ending old new
+  pub read_faults : ReadFaultsAt ending old.files new.files
+  pub misses : MissesAt ending old.files.misses new.files.misses
+  pub write_faults : WriteFaultsAt ending old new
   pub files : new.files.contents ≡ old.files.contents
 
 -- The line stands at the end, or some first bytes of it do and the count of faults rose. Without a line nothing has changed.
@@ -85,7 +85,7 @@ Tells (Some line) old new =
 pub record Promise (words : List (List ℕ)) (old new : Outside) (old_err new_err : SinkState) (status : ℕ) : Type 0 where
   pub run : Run
   pub ending : Ending
-  pub is : status ≡ status_of ending
+  pub status_is : status ≡ status_of ending
   pub cause : HasCause words old.files.contents run ending
   pub refused : AreRefused words → ending ≡ BadWords
   pub due : IfTold old.files.contents (IsDue words ending)

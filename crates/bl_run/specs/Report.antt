@@ -10,10 +10,10 @@ pub data Statement : Type 0 where
   Best : List ℤ → ℤ → Statement
   None : Statement
 
--- the statement holds of the program
-abbrev pub Holds : Program → Statement → Type 0
-Holds p (Best z v) = Optimal p z v
-Holds p None = Infeasible p
+-- the statement answers the program
+abbrev pub Answers : Program → Statement → Type 0
+Answers p (Best z v) = Optimal p z v
+Answers p None = Infeasible p
 
 -- `column NAME VALUE`
 abbrev pub column_line : RawColumn → ℤ → List ℕ

@@ -8,8 +8,7 @@ use Rattle.bl_terms.specs.Programs.{Program, root}
 use Rattle.bl_terms.specs.Trees.{point_count}
 use Rattle.bl_run.specs.Words.{SolveWords}
 use Rattle.bl_run.specs.Texts.{IsMpsText, IsMpsFault, IsAuxText, IsAuxFault, IsNotYet}
-use Rattle.bl_run.specs.Report.{Statement, Best, None, report_of}
-use Rattle.bl_run.specs.Report as answer
+use Rattle.bl_run.specs.Report.{Statement, Best, None, Answers, report_of}
 use Rattle.bl_run.specs.Endings.{Place, ToFile, ToOutput, Ending, Done, NoPoint, BadWords, BadText, NodesSpent, FollowerSpent, ReadFault, WriteFault, OutOfMemory, NotAccepted, Missing, ManyPoints}
 use Rattle.bl_limits.specs.declared.TheConstants.{MAX_WALK_POINTS}
 
@@ -45,16 +44,16 @@ pub record ReadsMps (files : Option Files) (run : Run) : Type 0 where
   pub says : IsMpsText run.mps_text run.mps
 
 -- both files' texts say the model and its follower
-pub record Reads (files : Option Files) (run : Run) : Type 0 where
+pub record ReadsBoth (files : Option Files) (run : Run) : Type 0 where
   pub mps : ReadsMps files run
   pub held : HasAux files run
   pub says : IsAuxText run.mps run.aux_text run.aux
 
 -- both texts are read, the box has few enough points to be walked, and the statement holds
 pub record Solves (files : Option Files) (run : Run) : Type 0 where
-  pub reads : Reads files run
+  pub reads : ReadsBoth files run
   pub few : point_count (root (program run)) ≤ MAX_WALK_POINTS
-  pub right : answer.Holds (program run) run.statement
+  pub right : Answers (program run) run.statement
 
 -- the MPS text breaks the rule
 pub record RefusesMps (files : Option Files) (run : Run) (file : List ℕ) (place : Place) (rule : List ℕ) : Type 0 where
@@ -72,7 +71,7 @@ pub record RefusesAux (files : Option Files) (run : Run) (file : List ℕ) (plac
 -- both texts are read, and the box has too many points to be walked
 pub record RefusesBox (files : Option Files) (run : Run) (file : List ℕ) (place : Place) (rule : List ℕ) : Type 0 where
   pub named : file ≡ run.words.mps
-  pub reads : Reads files run
+  pub reads : ReadsBoth files run
   pub large : MAX_WALK_POINTS < point_count (root (program run))
   pub not_yet : IsNotYet place rule
 

@@ -22,9 +22,9 @@ use Rattle.bl_run.specs.declared.fault.TextFault.{TextFault}
 use Rattle.bl_run.specs.declared.fault.Place as place
 use Rattle.bl_run.specs.declared.fault.Place.TheVariants as variant
 use Rattle.bl_run.specs.Endings.{Place, AtLine, AsWhole, ToOutput, Ending, Done, NoPoint, BadWords, BadText, ReadFault, WriteFault, OutOfMemory, Missing, place_text, file_line}
-use Rattle.bl_run.specs.Report.{Statement, Holds, report_of}
+use Rattle.bl_run.specs.Report.{Statement, Answers, report_of}
 use Rattle.bl_run.specs.Solve.{Run, ending_of, IsCause}
-use Rattle.bl_run.specs.Promise.{Outside, HasCause, CountsReadFault, CountsMiss, Leaves}
+use Rattle.bl_run.specs.Promise.{Outside, HasCause, ReadFaultsAt, MissesAt, Leaves}
 use Rattle.bl_limits.specs.declared.TheConstants.{MAX_TEXT_BYTES, MAX_WALK_POINTS}
 
 -- the place of a fault
@@ -67,8 +67,8 @@ result_ending (Err failure) = failure_ending failure
 -- a call that only reads, with what it counts at an ending
 pub record ReadsTo (ending : Ending) (old new : ShelfState) : Type 0 where
   pub reads : OnlyReads old new
-  pub read_faults : CountsReadFault ending old new
-  pub misses : CountsMiss ending old.misses new.misses
+  pub read_faults : ReadFaultsAt ending old new
+  pub misses : MissesAt ending old.misses new.misses
 
 -- a call that only reads: it counts the cause of its failure, and nothing where it succeeds
 abbrev pub OnlyCounts : {T : Type 0} → ShelfState → ShelfState → Result T Failure → Type 0
@@ -101,7 +101,7 @@ IsTooLong text = MAX_TEXT_BYTES < length text
 -- the text reports this answer by a statement that holds of the program
 pub record IsReport (columns : List RawColumn) (p : Program) (answer : Answer) (text : List ℕ) : Type 0 where
   pub statement : Statement
-  pub right : Holds p statement
+  pub right : Answers p statement
   pub same : ending_of statement ≡ answer_ending answer
   pub spelled : text ≡ report_of columns p statement
 

@@ -11,4 +11,4 @@ mod top;
 mod words;
 
 pub use status::Status;
-pub use top::{run, run_alone, want_memory};
+pub use top::{run, run_alone, out_of_memory};

@@ -89,7 +89,7 @@ fn command<'a, F: Shelf, O: Sink>(
 }
 
 /// The answer where not even the words could be read for want of memory.
-pub fn want_memory<E: Sink>(err: &mut E) -> Status
+pub fn out_of_memory<E: Sink>(err: &mut E) -> Status
     ensures status { result.0 ≡ 8 }
     ensures told { Tells (line_of OutOfMemory) (E.state err.old) (E.state err.new) }
 {

@@ -2,7 +2,7 @@
 #![tactic(auto)]
 
 use bl_outer::{DirShelf, NoGate, StdSink};
-use bl_run::{Status, run, want_memory};
+use bl_run::{Status, run, out_of_memory};
 use std::alloc::{AllocError, Global};
 use std::env;
 use std::io::ErrorKind;
@@ -16,7 +16,7 @@ fn main(rt: HostRuntime) -> ExitCode {
     let mut err = StdSink::new(rt.stderr());
     let Status(status) = match words(&rt, alloc) {
         Ok(words) => run(&rt, alloc, &words, &mut files, &mut out, &mut err, &NoGate),
-        Err(AllocError) => want_memory(&mut err),
+        Err(AllocError) => out_of_memory(&mut err),
     };
     ExitCode::from(status)
 }
