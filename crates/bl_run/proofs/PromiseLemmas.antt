@@ -27,7 +27,8 @@ some_is x y e = cc
 -- the words ask for one thing
 same_words : (a b : SolveWords) → a.mps ≡ b.mps → a.aux ≡ b.aux → a ≡ b
 same_words a b mps aux =
-    ap (λ (name : List ℕ). record { mps = name; aux = a.aux }) mps ∙ ap (λ (name : List ℕ). record { mps = b.mps; aux = name }) aux
+    ap (λ (name : List ℕ). record { mps = name; aux = a.aux }) mps
+    ∙ ap (λ (name : List ℕ). record { mps = b.mps; aux = name }) aux
 
 one_command : (words : List (List ℕ)) (a b : SolveWords) → AreSolveWords words a → AreSolveWords words b → a ≡ b
 one_command words a b these those =
@@ -41,17 +42,23 @@ one_model : (text : List ℕ) (a b : RawMps) → IsMpsText text a → IsMpsText 
 one_model text a b these those = says_one text (pos 1) a b (these.1 (pos 1)) (those.1 (pos 1))
 
 -- what isn't read yet is refused in one way
-not_yet_once : (place place' : Place) (rule rule' : List ℕ) → IsNotYet place rule → IsNotYet place' rule' → (place ≡ place') × (rule ≡ rule')
+not_yet_once : (place place' : Place) (rule rule' : List ℕ) → IsNotYet place rule → IsNotYet place' rule'
+    → (place ≡ place') × (rule ≡ rule')
 not_yet_once place place' rule rule' h k = (h.0 ∙ sym k.0, h.1 ∙ sym k.1)
 
 -- an auxiliary text is refused in one way
-aux_once : (mps : RawMps) (text : List ℕ) (place place' : Place) (rule rule' : List ℕ) → IsAuxFault mps text place rule → IsAuxFault mps text place' rule' → (place ≡ place') × (rule ≡ rule')
+aux_once : (mps : RawMps) (text : List ℕ) (place place' : Place) (rule rule' : List ℕ)
+    → IsAuxFault mps text place rule → IsAuxFault mps text place' rule' → (place ≡ place') × (rule ≡ rule')
 aux_once mps text place place' rule rule' h k =
-    let same = tells_one.fault (sizes mps) text h.fault k.fault h.first k.first in
-    (h.at ∙ ap (λ (f : AuxFault). line_place f.line) same ∙ sym k.at, h.by_rule ∙ ap (λ (f : AuxFault). aux_rule f.rule) same ∙ sym k.by_rule)
+    let same = tells_one.fault (sizes mps) text h.fault k.fault h.first k.first in (
+      h.at ∙ ap (λ (f : AuxFault). line_place f.line) same ∙ sym k.at,
+      h.by_rule
+          ∙ ap (λ (f : AuxFault). aux_rule f.rule) same ∙ sym k.by_rule,
+    )
 
 -- the box is that of the model alone
-one_box : (mps : RawMps) (aux other : RawAux) → point_count (root (program_of mps aux)) ≡ point_count (root (program_of mps other))
+one_box : (mps : RawMps) (aux other : RawAux) → point_count (root (program_of mps aux)) ≡ point_count
+    (root (program_of mps other))
 unfolding program_of
 one_box mps aux other = refl
 
@@ -77,56 +84,71 @@ module _ (files : Files) (run other : Run) (same : run.words ≡ other.words) wh
 
   one_mps : ReadsMps (Some files) run → ReadsMps (Some files) other → run.mps ≡ other.mps
   one_mps h k =
-      one_model other.mps_text run.mps other.mps (subst (λ (text : List ℕ). IsMpsText text run.mps) (one_mps_text h.held k.held) h.says) k.says
+      one_model other.mps_text run.mps other.mps (subst (λ (text : List ℕ). IsMpsText text run.mps)
+      (one_mps_text h.held k.held) h.says) k.says
 
-  mps_unrefused : (file : List ℕ) (place : Place) (rule : List ℕ) → ReadsMps (Some files) run → RefusesMps (Some files) other file place rule → ⊥
+  mps_unrefused : (file : List ℕ) (place : Place) (rule : List ℕ) → ReadsMps (Some files) run
+      → RefusesMps (Some files) other file place rule → ⊥
   mps_unrefused file place rule h k =
       k.fault.unread (subst (λ (text : List ℕ). IsMpsText text run.mps) (one_mps_text h.held k.held) h.says).0
 
-  aux_unrefused : (file : List ℕ) (place : Place) (rule : List ℕ) → ReadsBoth (Some files) run → RefusesAux (Some files) other file place rule → ⊥
+  aux_unrefused : (file : List ℕ) (place : Place) (rule : List ℕ) → ReadsBoth (Some files) run
+      → RefusesAux (Some files) other file place rule → ⊥
   aux_unrefused file place rule h k =
       tells_one.apart (sizes other.mps) other.aux_text run.aux k.fault.fault
       (subst (λ (mps : RawMps). IsAuxText mps other.aux_text run.aux) (one_mps h.mps k.mps)
       (subst (λ (text : List ℕ). IsAuxText run.mps text run.aux) (one_aux_text h.held k.held) h.says))
       k.fault.first
 
-  box_unrefused : (file : List ℕ) (place : Place) (rule : List ℕ) → ReadsBoth (Some files) run → point_count (root (program run)) ≤ MAX_WALK_POINTS → RefusesBox (Some files) other file place rule → ⊥
+  box_unrefused : (file : List ℕ) (place : Place) (rule : List ℕ) → ReadsBoth (Some files) run
+      → point_count (root (program run)) ≤ MAX_WALK_POINTS → RefusesBox (Some files) other file place rule → ⊥
   box_unrefused file place rule h few k =
       let large : MAX_WALK_POINTS < point_count (root (program_of run.mps other.aux)) =
-      subst (λ (mps : RawMps). MAX_WALK_POINTS < point_count (root (program_of mps other.aux))) (sym (one_mps h.mps k.reads.mps)) k.large in
+      subst (λ (mps : RawMps). MAX_WALK_POINTS < point_count (root (program_of mps other.aux)))
+      (sym (one_mps h.mps k.reads.mps)) k.large in
       omega (arith, large, few, one_box run.mps run.aux other.aux)
 
   -- texts that are read aren't refused, and their files aren't missing
-  unrefused : (file : List ℕ) (place : Place) (rule : List ℕ) → ReadsBoth (Some files) run → point_count (root (program run)) ≤ MAX_WALK_POINTS → RefusesText (Some files) other file place rule → ⊥
+  unrefused : (file : List ℕ) (place : Place) (rule : List ℕ) → ReadsBoth (Some files) run
+      → point_count (root (program run)) ≤ MAX_WALK_POINTS → RefusesText (Some files) other file place rule → ⊥
   unrefused file place rule h few k =
       ⊎_elim (mps_unrefused file place rule h.mps)
       (λ later. ⊎_elim (aux_unrefused file place rule h) (box_unrefused file place rule h few) later) k
 
   unmissed : (file : List ℕ) → ReadsBoth (Some files) run → IsMissing (Some files) other file → ⊥
   unmissed file h k =
-      ⊎_elim (λ named. mps_absent file h.mps.held named k.absent) (λ later. aux_absent file h.held later.0 k.absent) k.next
+      ⊎_elim (λ named. mps_absent file h.mps.held named k.absent)
+      (λ later. aux_absent file h.held later.0 k.absent) k.next
 
   -- where a text is refused, no file is missing
-  refused_unmissed : (file file' : List ℕ) (place : Place) (rule : List ℕ) → RefusesText (Some files) run file place rule → IsMissing (Some files) other file' → ⊥
+  refused_unmissed : (file file' : List ℕ) (place : Place) (rule : List ℕ)
+      → RefusesText (Some files) run file place rule → IsMissing (Some files) other file' → ⊥
   refused_unmissed file file' place rule h k =
-      ⊎_elim (λ first. ⊎_elim (λ named. mps_absent file' first.held named k.absent) (λ later. mps_refused_read first later.1) k.next)
-      (λ rest. ⊎_elim (λ second. ⊎_elim (λ named. mps_absent file' second.mps.held named k.absent) (λ later. aux_absent file' second.held later.0 k.absent) k.next)
+      ⊎_elim (λ first. ⊎_elim (λ named. mps_absent file' first.held named k.absent)
+      (λ later. mps_refused_read first later.1) k.next)
+      (λ rest. ⊎_elim (λ second. ⊎_elim (λ named. mps_absent file' second.mps.held named k.absent)
+      (λ later. aux_absent file' second.held later.0 k.absent) k.next)
       (λ third. unmissed file' third.reads k) rest) h
     where
       mps_refused_read : RefusesMps (Some files) run file place rule → ReadsMps (Some files) other → ⊥
       mps_refused_read first read =
-          first.fault.unread (subst (λ (text : List ℕ). IsMpsText text other.mps) (sym (one_mps_text first.held read.held)) read.says).0
+          first.fault.unread (subst (λ (text : List ℕ). IsMpsText text other.mps)
+          (sym (one_mps_text first.held read.held)) read.says).0
 
 -- the first cause is one
-same_refusal : (file file' : List ℕ) (place place' : Place) (rule rule' : List ℕ) → file ≡ file' → (place ≡ place') × (rule ≡ rule') → BadText file place rule ≡ BadText file' place' rule'
+same_refusal : (file file' : List ℕ) (place place' : Place) (rule rule' : List ℕ) → file ≡ file'
+    → (place ≡ place') × (rule ≡ rule') → BadText file place rule ≡ BadText file' place' rule'
 same_refusal file file' place place' rule rule' e h =
     let p = h.0 in
     let r = h.1 in
     cc
 
-module _ (files : Files) (run other : Run) (same : run.words ≡ other.words) (file file' : List ℕ) (place place' : Place) (rule rule' : List ℕ) where
-  one_refusal : RefusesText (Some files) run file place rule → RefusesText (Some files) other file' place' rule' → BadText file place rule ≡ BadText file' place' rule'
-  one_refusal h k = ⊎_elim (λ first. at_mps first k) (λ rest. ⊎_elim (λ second. at_aux second k) (λ third. at_box third k) rest) h
+module _ (files : Files) (run other : Run) (same : run.words ≡ other.words) (file file' : List ℕ)
+    (place place' : Place) (rule rule' : List ℕ) where
+  one_refusal : RefusesText (Some files) run file place rule → RefusesText (Some files) other file' place' rule'
+      → BadText file place rule ≡ BadText file' place' rule'
+  one_refusal h k = ⊎_elim (λ first. at_mps first k) (λ rest. ⊎_elim (λ second. at_aux second k)
+      (λ third. at_box third k) rest) h
     where
       mps_name : file ≡ run.words.mps → file' ≡ other.words.mps → file ≡ file'
       mps_name h k = h ∙ (same_mps_name files run other same ∙ sym k)
@@ -134,41 +156,57 @@ module _ (files : Files) (run other : Run) (same : run.words ≡ other.words) (f
       aux_name : file ≡ run.words.aux → file' ≡ other.words.aux → file ≡ file'
       aux_name h k = h ∙ (same_aux_name files run other same ∙ sym k)
 
-      one_aux : RefusesAux (Some files) run file place rule → RefusesAux (Some files) other file' place' rule' → (place ≡ place') × (rule ≡ rule')
+      one_aux : RefusesAux (Some files) run file place rule → RefusesAux (Some files) other file' place' rule'
+          → (place ≡ place') × (rule ≡ rule')
       one_aux second aux =
           let model = one_mps files run other same second.mps aux.mps in
           let text = one_aux_text files run other same second.held aux.held in
           aux_once other.mps other.aux_text place place' rule rule'
-          (subst (λ (mps : RawMps). IsAuxFault mps other.aux_text place rule) model (subst (λ (t : List ℕ). IsAuxFault run.mps t place rule) text second.fault)) aux.fault
+          (subst (λ (mps : RawMps). IsAuxFault mps other.aux_text place rule) model
+          (subst (λ (t : List ℕ). IsAuxFault run.mps t place rule) text second.fault)) aux.fault
 
-      at_mps : RefusesMps (Some files) run file place rule → RefusesText (Some files) other file' place' rule' → BadText file place rule ≡ BadText file' place' rule'
+      at_mps : RefusesMps (Some files) run file place rule → RefusesText (Some files) other file' place' rule'
+          → BadText file place rule ≡ BadText file' place' rule'
       at_mps first k =
-          ⊎_elim (λ mps. same_refusal file file' place place' rule rule' (mps_name first.named mps.named) (not_yet_once place place' rule rule' first.fault.not_yet mps.fault.not_yet))
-          (λ rest. ⊎_elim (λ aux. absurd (mps_unrefused files other run (sym same) file place rule aux.mps first)) (λ box. absurd (mps_unrefused files other run (sym same) file place rule box.reads.mps first)) rest) k
+          ⊎_elim (λ mps. same_refusal file file' place place' rule rule' (mps_name first.named mps.named)
+          (not_yet_once place place' rule rule' first.fault.not_yet mps.fault.not_yet))
+          (λ rest. ⊎_elim (λ aux. absurd (mps_unrefused files other run (sym same) file place rule aux.mps first))
+          (λ box. absurd (mps_unrefused files other run (sym same) file place rule box.reads.mps first)) rest) k
 
-      at_aux : RefusesAux (Some files) run file place rule → RefusesText (Some files) other file' place' rule' → BadText file place rule ≡ BadText file' place' rule'
+      at_aux : RefusesAux (Some files) run file place rule → RefusesText (Some files) other file' place' rule'
+          → BadText file place rule ≡ BadText file' place' rule'
       at_aux second k =
           ⊎_elim (λ mps. absurd (mps_unrefused files run other same file' place' rule' second.mps mps))
-          (λ rest. ⊎_elim (λ aux. same_refusal file file' place place' rule rule' (aux_name second.named aux.named) (one_aux second aux)) (λ box. absurd (aux_unrefused files other run (sym same) file place rule box.reads second)) rest) k
+          (λ rest. ⊎_elim (λ aux. same_refusal file file' place place' rule rule' (aux_name second.named aux.named)
+          (one_aux second aux)) (λ box. absurd (aux_unrefused files other run
+          (sym same) file place rule box.reads second)) rest) k
 
-      at_box : RefusesBox (Some files) run file place rule → RefusesText (Some files) other file' place' rule' → BadText file place rule ≡ BadText file' place' rule'
+      at_box : RefusesBox (Some files) run file place rule → RefusesText (Some files) other file' place' rule'
+          → BadText file place rule ≡ BadText file' place' rule'
       at_box third k =
           ⊎_elim (λ mps. absurd (mps_unrefused files run other same file' place' rule' third.reads.mps mps))
-          (λ rest. ⊎_elim (λ aux. absurd (aux_unrefused files run other same file' place' rule' third.reads aux)) (λ box. same_refusal file file' place place' rule rule' (mps_name third.named box.named) (not_yet_once place place' rule rule' third.not_yet box.not_yet)) rest) k
+          (λ rest. ⊎_elim (λ aux. absurd (aux_unrefused files run other same file' place' rule' third.reads aux))
+          (λ box. same_refusal file file' place place' rule rule' (mps_name third.named box.named)
+          (not_yet_once place place' rule rule' third.not_yet box.not_yet)) rest) k
 
   one_missing : IsMissing (Some files) run file → IsMissing (Some files) other file' → file ≡ file'
   one_missing h k =
       ⊎_elim
-      (λ mps. ⊎_elim (λ mps'. mps ∙ (same_mps_name files run other same ∙ sym mps')) (λ aux'. absurd (mps_absent files other run (sym same) file aux'.1.held mps h.absent)) k.next)
-      (λ aux. ⊎_elim (λ mps'. absurd (mps_absent files run other same file' aux.1.held mps' k.absent)) (λ aux'. aux.0 ∙ (same_aux_name files run other same ∙ sym aux'.0)) k.next)
+      (λ mps. ⊎_elim (λ mps'. mps ∙ (same_mps_name files run other same ∙ sym mps'))
+      (λ aux'. absurd (mps_absent files other run (sym same) file aux'.1.held mps h.absent)) k.next)
+      (λ aux. ⊎_elim (λ mps'. absurd (mps_absent files run other same file' aux.1.held mps' k.absent))
+      (λ aux'. aux.0 ∙ (same_aux_name files run other same ∙ sym aux'.0)) k.next)
       h.next
 
 -- what is due where a cause stands
 module _ (words : List (List ℕ)) (files : Files) where
-  due_answer : (run : Run) (ending : Ending) → EndsInAnswer ending → AreSolveWords words run.words → ReadsBoth (Some files) run → point_count (root (program run)) ≤ MAX_WALK_POINTS → IsDue words ending files
+  due_answer : (run : Run) (ending : Ending) → EndsInAnswer ending → AreSolveWords words run.words
+      → ReadsBoth (Some files) run → point_count (root (program run)) ≤ MAX_WALK_POINTS → IsDue words ending files
   due_answer run ending is asked reads few = record {
-    refused = λ other file place rule named cause. absurd (unrefused files run other (one_command words run.words other.words asked named) file place rule reads few cause);
-    missing = λ other file named cause. absurd (unmissed files run other (one_command words run.words other.words asked named) file reads cause);
+    refused = λ other file place rule named cause. absurd (unrefused files run other
+        (one_command words run.words other.words asked named) file place rule reads few cause);
+    missing = λ other file named cause. absurd (unmissed files run other
+        (one_command words run.words other.words asked named) file reads cause);
     answered = λ other named read small. inl is;
   }
 
@@ -186,18 +224,27 @@ module _ (words : List (List ℕ)) (files : Files) where
     answered = λ other named read small. absurd (none other.words named);
   }
 
-  due_refusal : (run : Run) (file : List ℕ) (place : Place) (rule : List ℕ) → AreSolveWords words run.words → RefusesText (Some files) run file place rule → IsDue words (BadText file place rule) files
+  due_refusal : (run : Run) (file : List ℕ) (place : Place) (rule : List ℕ) → AreSolveWords words run.words
+      → RefusesText (Some files) run file place rule → IsDue words (BadText file place rule) files
   due_refusal run file place rule asked h = record {
-    refused = λ other file' place' rule' named cause. inl (one_refusal files run other (one_command words run.words other.words asked named) file file' place place' rule rule' h cause);
-    missing = λ other file' named cause. absurd (refused_unmissed files run other (one_command words run.words other.words asked named) file file' place rule h cause);
-    answered = λ other named read small. absurd (unrefused files other run (one_command words other.words run.words named asked) file place rule read small h);
+    refused = λ other file' place' rule' named cause. inl (one_refusal files run other
+        (one_command words run.words other.words asked named) file file' place place' rule rule' h cause);
+    missing = λ other file' named cause. absurd (refused_unmissed files run other
+        (one_command words run.words other.words asked named) file file' place rule h cause);
+    answered = λ other named read small. absurd (unrefused files other run
+        (one_command words other.words run.words named asked) file place rule read small h);
   }
 
-  due_missing : (run : Run) (file : List ℕ) → AreSolveWords words run.words → IsMissing (Some files) run file → IsDue words (Missing file) files
+  due_missing : (run : Run) (file : List ℕ) → AreSolveWords words run.words → IsMissing (Some files) run file
+      → IsDue words (Missing file) files
   due_missing run file asked h = record {
-    refused = λ other file' place rule named cause. absurd (refused_unmissed files other run (one_command words other.words run.words named asked) file' file place rule cause h);
-    missing = λ other file' named cause. inl (ap (λ (name : List ℕ). Missing name) (one_missing files run other (one_command words run.words other.words asked named) file file' AsWhole AsWhole [] [] h cause));
-    answered = λ other named read small. absurd (unmissed files other run (one_command words other.words run.words named asked) file read h);
+    refused = λ other file' place rule named cause. absurd (refused_unmissed files other run
+        (one_command words other.words run.words named asked) file' file place rule cause h);
+    missing = λ other file' named cause. inl (ap (λ (name : List ℕ). Missing name)
+        (one_missing files run other (one_command words run.words other.words asked named) file file' AsWhole
+        AsWhole [] [] h cause));
+    answered = λ other named read small. absurd (unmissed files other run
+        (one_command words other.words run.words named asked) file read h);
   }
 
   due_at : (run : Run) (ending : Ending) → HasCause words (Some files) run ending → IsDue words ending files
@@ -215,12 +262,14 @@ module _ (words : List (List ℕ)) (files : Files) where
   due_at run (Missing file) h = due_missing run file h.0 h.1
   due_at run (ManyPoints file) h = absurd h.1
 
-due : (words : List (List ℕ)) (files : Option Files) (run : Run) (ending : Ending) → HasCause words files run ending → IfTold files (IsDue words ending)
+due : (words : List (List ℕ)) (files : Option Files) (run : Run) (ending : Ending) → HasCause words files run ending
+    → IfTold files (IsDue words ending)
 due words None run ending h = tt
 due words (Some files) run ending h = due_at words files run ending h
 
 -- words that ask for nothing end so
-refused : (words : List (List ℕ)) (files : Option Files) (run : Run) (ending : Ending) → HasCause words files run ending → AreRefused words → ending ≡ BadWords
+refused : (words : List (List ℕ)) (files : Option Files) (run : Run) (ending : Ending)
+    → HasCause words files run ending → AreRefused words → ending ≡ BadWords
 refused words files run BadWords h none = refl
 refused words files run Done h none = absurd (none run.words h.0)
 refused words files run NoPoint h none = absurd (none run.words h.0)
@@ -236,7 +285,8 @@ refused words files run (ManyPoints file) h none = absurd (none run.words h.0)
 
 -- from how a command ended to its promise
 pub promised : (words : List (List ℕ)) (old new : Outside) (old_err new_err : SinkState) (ending : Ending) (status : ℕ)
-    → EndsCommand words old new ending → status ≡ status_of ending → Tells (line_of ending) old_err new_err → Promise words old new old_err new_err status
+    → EndsCommand words old new ending → status ≡ status_of ending → Tells (line_of ending) old_err new_err
+    → Promise words old new old_err new_err status
 promised words old new old_err new_err ending status ends is told = record {
   run = ends.run;
   ending = ending;

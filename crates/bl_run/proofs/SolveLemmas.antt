@@ -18,7 +18,8 @@ use Rattle.bl_model.specs.Build.{program_of}
 use Rattle.bl_model.proofs.PointLemmas.{InBox-within}
 
 -- a product of numbers from 1 on doesn't fall
-product_below-grows : (n m : ℕ) (f : ℕ → ℕ) → ((k : ℕ) → k < m → 1 ≤ f k) → n ≤ m → product_below n f ≤ product_below m f
+product_below-grows : (n m : ℕ) (f : ℕ → ℕ) → ((k : ℕ) → k < m → 1 ≤ f k) → n ≤ m
+    → product_below n f ≤ product_below m f
 product_below-grows n zero f one le = let same : n ≡ zero = omega arith in rw same (omega arith)
 product_below-grows n (suc m) f one le =
     ⊎_elim
@@ -43,16 +44,20 @@ width-positive p k m below =
         positive (negsuc n) h = omega (arith, ints, h)
 
 -- the points of the first columns are at most those of all
-pub point_count-above : (p : Program) (n : ℕ) → IsModel p → n ≤ columns p → product_below n (width_at (root p)) ≤ point_count (root p)
-point_count-above p n m le = product_below-grows n (columns p) (width_at (root p)) (λ k below. width-positive p k m below) le
+pub point_count-above : (p : Program) (n : ℕ) → IsModel p → n ≤ columns p
+    → product_below n (width_at (root p)) ≤ point_count (root p)
+point_count-above p n m le = product_below-grows n (columns p) (width_at (root p))
+    (λ k below. width-positive p k m below) le
 
 -- the follower's value of a point of the box fits 64 bits, turned round or not
 pub follower_fits : (p : Program) (z : List ℤ) → IsModel p → InBox p z → FitsSigned w64 (follower_at p z *ℤ p.sense)
 follower_fits p z m is =
     let costs : AreWithin 10000000 p.follower_cost = record { each = λ k _. m.limits.follower_costs k } in
     let few : length p.follower_cost ≤ 120 = omega (arith, m.sound.follower_cost_columns, m.limits.few_columns) in
-    let value : IsWithin 12000000000000000 (follower_at p z) = within_more (within_dot costs (InBox-within p z m is)) (omega (arith, few)) in
-    let sense : IsWithin 1 p.sense = ⊎_elim (λ e. record { magnitude = rw e (omega arith) }) (λ e. record { magnitude = rw e (omega arith) }) m.sound.sign in
+    let value : IsWithin 12000000000000000 (follower_at p z) = within_more (within_dot costs (InBox-within p z m is))
+    (omega (arith, few)) in
+    let sense : IsWithin 1 p.sense = ⊎_elim (λ e. record { magnitude = rw e (omega arith) })
+    (λ e. record { magnitude = rw e (omega arith) }) m.sound.sign in
     fits_from_within w64 (within_product value sense) (omega arith)
 
 -- the program has the text's columns

@@ -33,12 +33,18 @@ some_longer : (limit : ℕ) → (text : List ℕ) × (limit < length text)
 some_longer limit = (replicate (suc limit) 0, simp length-replicate (omega arith))
 
 -- a file that was cut off has a text that is too long
-pub cut_off : (files : Option Files) (name text : List ℕ) → IfTold files (IsTruncated name MAX_TEXT_BYTES text) → HasText files name IsTooLong
-cut_off None name text h = record { text = (some_longer MAX_TEXT_BYTES).0; held = tt; is = (some_longer MAX_TEXT_BYTES).1 }
+pub cut_off : (files : Option Files) (name text : List ℕ) → IfTold files (IsTruncated name MAX_TEXT_BYTES text)
+    → HasText files name IsTooLong
+cut_off None name text h = record {
+  text = (some_longer MAX_TEXT_BYTES).0;
+  held = tt;
+  is = (some_longer MAX_TEXT_BYTES).1;
+}
 cut_off (Some told) name text h = record { text = h.bytes; held = h.held; is = h.longer }
 
 -- what a file that wasn't read at all says of any text that is refused
-pub unread : (files : Option Files) (name : List ℕ) (Bad : List ℕ → Place → List ℕ → Type 0) (failure : Failure) → FailsToRead files name NoFault failure → FailsToRead files name Bad failure
+pub unread : (files : Option Files) (name : List ℕ) (Bad : List ℕ → Place → List ℕ → Type 0) (failure : Failure)
+    → FailsToRead files name NoFault failure → FailsToRead files name Bad failure
 unread files name Bad failure.Words h = h
 unread files name Bad (failure.Text file fault) h = absurd h.1.is
 unread files name Bad (failure.ReadFault file) h = h
@@ -47,7 +53,8 @@ unread files name Bad failure.Memory h = h
 unread files name Bad (failure.Missing file) h = h
 
 -- a text that is too long isn't in the first form
-pub mps_too_long : (files : Option Files) (name : List ℕ) → HasText files name IsTooLong → HasText files name (λ text. IsMpsFault text AsWhole (codes "NotYet"))
+pub mps_too_long : (files : Option Files) (name : List ℕ) → HasText files name IsTooLong
+    → HasText files name (λ text. IsMpsFault text AsWhole (codes "NotYet"))
 mps_too_long files name h = record {
   text = h.text;
   held = h.held;
@@ -55,7 +62,8 @@ mps_too_long files name h = record {
 }
 
 -- a text that is too long breaks that rule of an auxiliary text
-pub aux_too_long : (files : Option Files) (name : List ℕ) (mps : RawMps) (place : Place) (rule : List ℕ) → place ≡ AsWhole → rule ≡ codes "TooLong" → HasText files name IsTooLong
+pub aux_too_long : (files : Option Files) (name : List ℕ) (mps : RawMps) (place : Place) (rule : List ℕ)
+    → place ≡ AsWhole → rule ≡ codes "TooLong" → HasText files name IsTooLong
     → HasText files name (λ text. IsAuxFault mps text place rule)
 aux_too_long files name mps place rule at by_rule h = record {
   text = h.text;
@@ -69,7 +77,11 @@ module _ (old middle new : ShelfState) (quiet : NoReadFault old middle) where
   unfaulted h = record { read_faults = h.read_faults ∙ quiet.read_faults; faulted = h.faulted ∙ quiet.faulted }
 
   counted_after : (ending : Ending) → ReadFaultsAt ending middle new → ReadFaultsAt ending old new
-  counted_after (ReadFault file) h = record { counted = subst (λ (n : ℕ). Grew n new.read_faults) quiet.read_faults h.counted; named = h.named }
+  counted_after (ReadFault file) h = record {
+    counted = subst
+        (λ (n : ℕ). Grew n new.read_faults) quiet.read_faults h.counted;
+    named = h.named;
+  }
   counted_after Done h = unfaulted h
   counted_after NoPoint h = unfaulted h
   counted_after BadWords h = unfaulted h
@@ -83,9 +95,14 @@ module _ (old middle new : ShelfState) (quiet : NoReadFault old middle) where
   counted_after (ManyPoints file) h = unfaulted h
 
 -- two calls that only read, of which the first succeeded
-pub reads_then : (old middle new : ShelfState) (ending : Ending) → ReadsTo Done old middle → ReadsTo ending middle new → ReadsTo ending old new
+pub reads_then : (old middle new : ShelfState) (ending : Ending) → ReadsTo Done old middle → ReadsTo ending middle new
+    → ReadsTo ending old new
 reads_then old middle new ending g h = record {
-  reads = record { contents = h.reads.contents ∙ g.reads.contents; write_faults = h.reads.write_faults ∙ g.reads.write_faults };
+  reads = record {
+    contents = h.reads.contents ∙ g.reads.contents;
+    write_faults = h.reads.write_faults
+        ∙ g.reads.write_faults;
+  };
   read_faults = counted_after old middle new g.read_faults ending h.read_faults;
   misses = subst (λ (n : ℕ). MissesAt ending n new.misses) g.misses h.misses;
 }
@@ -107,74 +124,139 @@ IsUnwritten failure.WriteFault = ⊥
 IsUnwritten _ = Unit {0}
 
 -- what is left where nothing was written
-left : (run : Run) (old new : ShelfState) (out : SinkState) (failure : Failure) → IsUnwritten failure → ReadsTo (failure_ending failure) old new
+left : (run : Run) (old new : ShelfState) (out : SinkState) (failure : Failure) → IsUnwritten failure
+    → ReadsTo (failure_ending failure) old new
     → Leaves run (failure_ending failure) (record { files = old; out = out }) (record { files = new; out = out })
-left run old new out failure.Words is h = record { printed = refl; read_faults = h.read_faults; misses = h.misses; write_faults = (h.reads.write_faults, refl); files = h.reads.contents }
-left run old new out (failure.Text file fault) is h = record { printed = refl; read_faults = h.read_faults; misses = h.misses; write_faults = (h.reads.write_faults, refl); files = h.reads.contents }
-left run old new out (failure.ReadFault file) is h = record { printed = refl; read_faults = h.read_faults; misses = h.misses; write_faults = (h.reads.write_faults, refl); files = h.reads.contents }
+left run old new out failure.Words is h = record {
+  printed = refl;
+  read_faults = h.read_faults;
+  misses = h.misses;
+  write_faults = (h.reads.write_faults, refl);
+  files = h.reads.contents;
+}
+left run old new out (failure.Text file fault) is h = record {
+  printed = refl;
+  read_faults = h.read_faults;
+  misses = h.misses;
+  write_faults = (h.reads.write_faults, refl);
+  files = h.reads.contents;
+}
+left run old new out (failure.ReadFault file) is h = record {
+  printed = refl;
+  read_faults = h.read_faults;
+  misses = h.misses;
+  write_faults = (h.reads.write_faults, refl);
+  files = h.reads.contents;
+}
 left run old new out failure.WriteFault is h = absurd is
-left run old new out failure.Memory is h = record { printed = refl; read_faults = h.read_faults; misses = h.misses; write_faults = (h.reads.write_faults, refl); files = h.reads.contents }
-left run old new out (failure.Missing file) is h = record { printed = refl; read_faults = h.read_faults; misses = h.misses; write_faults = (h.reads.write_faults, refl); files = h.reads.contents }
+left run old new out failure.Memory is h = record {
+  printed = refl;
+  read_faults = h.read_faults;
+  misses = h.misses;
+  write_faults = (h.reads.write_faults, refl);
+  files = h.reads.contents;
+}
+left run old new out (failure.Missing file) is h = record {
+  printed = refl;
+  read_faults = h.read_faults;
+  misses = h.misses;
+  write_faults = (h.reads.write_faults, refl);
+  files = h.reads.contents;
+}
 
 -- where a file of one name is absent, so is that of the same name
-named_absent : (files : Option Files) (name file : List ℕ) → file ≡ name → IfTold files (λ told. IsAbsent told name) → IfTold files (λ told. IsAbsent told file)
+named_absent : (files : Option Files) (name file : List ℕ) → file ≡ name → IfTold files (λ told. IsAbsent told name)
+    → IfTold files (λ told. IsAbsent told file)
 named_absent files name file e h = subst (λ (n : List ℕ). IfTold files (λ told. IsAbsent told n)) (sym e) h
 
 module _ (asked : SolveWords) (old new : ShelfState) (out : SinkState) where
   -- the words weren't those of a command
-  pub ended_by : (run : Run) (failure : Failure) → run.words ≡ asked → IsUnwritten failure → IsCause old.contents run (failure_ending failure) → ReadsTo (failure_ending failure) old new
+  pub ended_by : (run : Run) (failure : Failure) → run.words ≡ asked → IsUnwritten failure
+      → IsCause old.contents run (failure_ending failure) → ReadsTo (failure_ending failure) old new
       → Ends asked (record { files = old; out = out }) (record { files = new; out = out }) (failure_ending failure)
-  ended_by run failure words is cause h = record { run = run; words = words; cause = cause; leaves = left run old new out failure is h }
+  ended_by run failure words is cause h = record {
+    run = run;
+    words = words;
+    cause = cause;
+    leaves = left run old new out failure is h;
+  }
 
   -- the MPS file wasn't read
-  pub mps_stops : (failure : Failure) → FailsToRead old.contents asked.mps IsMpsFault failure → ReadsTo (failure_ending failure) old new
+  pub mps_stops : (failure : Failure) → FailsToRead old.contents asked.mps IsMpsFault failure
+      → ReadsTo (failure_ending failure) old new
       → Ends asked (record { files = old; out = out }) (record { files = new; out = out }) (failure_ending failure)
   mps_stops failure.Words why h = absurd why
   mps_stops (failure.Text file fault) why h =
-      ended_by (record (run_of asked) { mps_text = why.1.text }) (failure.Text file fault) refl tt (inl (record { named = why.0; held = why.1.held; fault = why.1.is })) h
+      ended_by (record (run_of asked) { mps_text = why.1.text }) (failure.Text file fault) refl tt
+      (inl (record { named = why.0; held = why.1.held; fault = why.1.is })) h
   mps_stops (failure.ReadFault file) why h = ended_by (run_of asked) (failure.ReadFault file) refl tt (inl why) h
   mps_stops failure.WriteFault why h = absurd why
   mps_stops failure.Memory why h = ended_by (run_of asked) failure.Memory refl tt tt h
   mps_stops (failure.Missing file) why h =
-      ended_by (run_of asked) (failure.Missing file) refl tt (record { next = inl why.0; absent = named_absent old.contents asked.mps file.now why.0 why.1 }) h
+      ended_by (run_of asked) (failure.Missing file) refl tt
+      (record { next = inl why.0; absent = named_absent old.contents asked.mps file.now why.0 why.1 }) h
 
 -- the MPS text was read, and the auxiliary file wasn't
-module _ (asked : SolveWords) (old middle new : ShelfState) (out : SinkState) (mps : RawMps) (read : HasText old.contents asked.mps (λ text. IsMpsText text mps)) (quiet : ReadsTo Done old middle) where
+module _ (asked : SolveWords) (old middle new : ShelfState) (out : SinkState) (mps : RawMps)
+    (read : HasText old.contents asked.mps (λ text. IsMpsText text mps)) (quiet : ReadsTo Done old middle) where
   abbrev read_run : Run
   read_run = record (run_of asked) { mps_text = read.text; mps = mps }
 
   reads_mps : ReadsMps old.contents read_run
   reads_mps = record { held = read.held; says = read.is }
 
-  stopped : (failure : Failure) → FailsToRead old.contents asked.aux (IsAuxFault mps) failure → ReadsTo (failure_ending failure) old new
+  stopped : (failure : Failure) → FailsToRead old.contents asked.aux (IsAuxFault mps) failure
+      → ReadsTo (failure_ending failure) old new
       → Ends asked (record { files = old; out = out }) (record { files = new; out = out }) (failure_ending failure)
   stopped failure.Words why h = absurd why
   stopped (failure.Text file fault) why h =
       ended_by asked old new out (record read_run { aux_text = why.1.text }) (failure.Text file fault) refl tt
-      (inr (inl (record { named = why.0; mps = record { held = read.held; says = read.is }; held = why.1.held; fault = why.1.is }))) h
-  stopped (failure.ReadFault file) why h = ended_by asked old new out read_run (failure.ReadFault file) refl tt (inr (why, reads_mps)) h
+      (inr (inl (record {
+        named = why.0;
+        mps = record { held = read.held; says = read.is };
+        held = why.1.held;
+        fault = why.1.is;
+      }))) h
+  stopped (failure.ReadFault file) why h = ended_by asked old new out read_run (failure.ReadFault file) refl tt
+      (inr (why, reads_mps)) h
   stopped failure.WriteFault why h = absurd why
   stopped failure.Memory why h = ended_by asked old new out read_run failure.Memory refl tt tt h
   stopped (failure.Missing file) why h =
-      ended_by asked old new out read_run (failure.Missing file) refl tt (record { next = inr (why.0, reads_mps); absent = named_absent old.contents asked.aux file.now why.0 why.1 }) h
+      ended_by asked old new out read_run (failure.Missing file) refl tt
+      (record {
+        next = inr (why.0, reads_mps);
+        absent = named_absent old.contents asked.aux file.now why.0
+            why.1;
+      }) h
 
-  pub aux_stops : (failure : Failure) → FailsToRead middle.contents asked.aux (IsAuxFault mps) failure → ReadsTo (failure_ending failure) middle new
+  pub aux_stops : (failure : Failure) → FailsToRead middle.contents asked.aux (IsAuxFault mps) failure
+      → ReadsTo (failure_ending failure) middle new
       → Ends asked (record { files = old; out = out }) (record { files = new; out = out }) (failure_ending failure)
   aux_stops failure why h =
-      stopped failure (subst (λ (files : Option Files). FailsToRead files asked.aux (IsAuxFault mps) failure) quiet.reads.contents why)
+      stopped failure (subst (λ (files : Option Files). FailsToRead files asked.aux (IsAuxFault mps) failure)
+      quiet.reads.contents why)
       (reads_then old middle new (failure_ending failure) quiet h)
 
 -- both texts were read
 module _ (asked : SolveWords) (old middle new : ShelfState) (mps : RawMps) (aux : RawAux)
     (mps_read : HasText old.contents asked.mps (λ text. IsMpsText text mps)) (quiet : ReadsTo Done old middle)
-    (aux_read : HasText middle.contents asked.aux (λ text. IsAuxText mps text aux)) (still : ReadsTo Done middle new) where
+    (aux_read : HasText middle.contents asked.aux (λ text. IsAuxText mps text aux))
+    (still : ReadsTo Done middle new) where
   abbrev both_run : Statement → Run
-  both_run statement = record { words = asked; mps_text = mps_read.text; mps = mps; aux_text = aux_read.text; aux = aux; statement = statement }
+  both_run statement = record {
+    words = asked;
+    mps_text = mps_read.text;
+    mps = mps;
+    aux_text = aux_read.text;
+    aux = aux;
+    statement = statement;
+  }
 
   reads_both : (statement : Statement) → ReadsBoth old.contents (both_run statement)
   reads_both statement = record {
     mps = record { held = mps_read.held; says = mps_read.is };
-    held = subst (λ (files : Option Files). IfTold files (λ told. Holds told asked.aux aux_read.text)) quiet.reads.contents aux_read.held;
+    held = subst (λ (files : Option Files). IfTold files (λ told. Holds told asked.aux aux_read.text))
+        quiet.reads.contents aux_read.held;
     says = aux_read.is;
   }
 
@@ -196,7 +278,9 @@ module _ (asked : SolveWords) (old middle new : ShelfState) (mps : RawMps) (aux 
       (record { reads = all_read.reads; read_faults = all_read.read_faults; misses = all_read.misses })
   solving_stops out (failure.Missing file) why = absurd why
 
-  module _ (out after : SinkState) (text : List ℕ) (says : Answer) (few : point_count (root (program_of mps aux)) ≤ MAX_WALK_POINTS) (told : IsReport mps.columns (program_of mps aux) says text) where
+  module _ (out after : SinkState) (text : List ℕ) (says : Answer)
+      (few : point_count (root (program_of mps aux)) ≤ MAX_WALK_POINTS)
+      (told : IsReport mps.columns (program_of mps aux) says text) where
     solved : Solves old.contents (both_run told.statement)
     solved = record { reads = reads_both told.statement; few = few; right = told.right }
 
@@ -224,30 +308,51 @@ module _ (asked : SolveWords) (old middle new : ShelfState) (mps : RawMps) (aux 
         line : Told (Adds (report.report_of mps.columns (program_of mps aux) told.statement)) out.bytes after.bytes
         line = subst (λ (t : List ℕ). Told (Adds t) out.bytes after.bytes) told.spelled printed
 
-        at : (a : Answer) → ending_of told.statement ≡ answer_ending a → Ends asked (record { files = old; out = out }) (record { files = new; out = after }) (answer_ending a)
+        at : (a : Answer) → ending_of told.statement ≡ answer_ending a
+            → Ends asked (record { files = old; out = out }) (record { files = new; out = after }) (answer_ending a)
         at answer.Optimal e = record {
           run = both_run told.statement;
           words = refl;
           cause = (solved, e);
-          leaves = record { printed = line; read_faults = all_read.read_faults; misses = all_read.misses; write_faults = (all_read.reads.write_faults, same); files = all_read.reads.contents };
+          leaves = record {
+            printed = line;
+            read_faults = all_read.read_faults;
+            misses = all_read.misses;
+            write_faults = (all_read.reads.write_faults, same);
+            files = all_read.reads.contents;
+          };
         }
         at answer.Infeasible e = record {
           run = both_run told.statement;
           words = refl;
           cause = (solved, e);
-          leaves = record { printed = line; read_faults = all_read.read_faults; misses = all_read.misses; write_faults = (all_read.reads.write_faults, same); files = all_read.reads.contents };
+          leaves = record {
+            printed = line;
+            read_faults = all_read.read_faults;
+            misses = all_read.misses;
+            write_faults = (all_read.reads.write_faults, same);
+            files = all_read.reads.contents;
+          };
         }
 
 -- the words ask for nothing
-pub no_command : (words : List (List ℕ)) (outside : Outside) → AreRefused words → EndsCommand words outside outside BadWords
+pub no_command : (words : List (List ℕ)) (outside : Outside) → AreRefused words
+    → EndsCommand words outside outside BadWords
 no_command words outside none = record {
   run = run_of (record { mps = []; aux = [] });
   cause = none;
-  leaves = record { printed = refl; read_faults = record { read_faults = refl; faulted = refl }; misses = refl; write_faults = (refl, refl); files = refl };
+  leaves = record {
+    printed = refl;
+    read_faults = record { read_faults = refl; faulted = refl };
+    misses = refl;
+    write_faults = (refl, refl);
+    files = refl;
+  };
 }
 
 -- the words ask for what was done
-caused : (words : List (List ℕ)) (files : Option Files) (run : Run) (ending : Ending) → AreSolveWords words run.words → IsCause files run ending → HasCause words files run ending
+caused : (words : List (List ℕ)) (files : Option Files) (run : Run) (ending : Ending) → AreSolveWords words run.words
+    → IsCause files run ending → HasCause words files run ending
 caused words files run Done asked h = (asked, h)
 caused words files run NoPoint asked h = (asked, h)
 caused words files run BadWords asked h = absurd h
@@ -261,9 +366,11 @@ caused words files run (NotAccepted file line rule) asked h = (asked, h)
 caused words files run (Missing file) asked h = (asked, h)
 caused words files run (ManyPoints file) asked h = (asked, h)
 
-pub command_ends : (words : List (List ℕ)) (asked : SolveWords) (old new : Outside) (ending : Ending) → AreSolveWords words asked → Ends asked old new ending → EndsCommand words old new ending
+pub command_ends : (words : List (List ℕ)) (asked : SolveWords) (old new : Outside) (ending : Ending)
+    → AreSolveWords words asked → Ends asked old new ending → EndsCommand words old new ending
 command_ends words asked old new ending these h = record {
   run = h.run;
-  cause = caused words old.files.contents h.run ending (subst (λ (w : SolveWords). AreSolveWords words w) (sym h.words) these) h.cause;
+  cause = caused words old.files.contents h.run ending (subst (λ (w : SolveWords). AreSolveWords words w)
+      (sym h.words) these) h.cause;
   leaves = h.leaves;
 }

@@ -66,7 +66,8 @@ line_of BadWords = Some (codes "mibs: words not understood\n")
 line_of (BadText file place rule) = Some (file_line file (place_text place ++ rule))
 line_of (NodesSpent budget made) = Some (codes "mibs: node budget " ++ (spent_text budget made ++ codes "\n"))
 line_of (FollowerSpent budget made link) =
-    Some (codes "mibs: follower budget " ++ (spent_text budget made ++ (codes " at link" ++ (flat_map (λ value. codes " " ++ signed_decimal value) link ++ codes "\n"))))
+    Some (codes "mibs: follower budget " ++ (spent_text budget made ++
+    (codes " at link" ++ (flat_map (λ value. codes " " ++ signed_decimal value) link ++ codes "\n"))))
 line_of (ReadFault file) = Some (codes "mibs: read fault: " ++ (file ++ codes "\n"))
 line_of (WriteFault target) = Some (codes "mibs: write fault\n")
 line_of OutOfMemory = Some (codes "mibs: want of memory\n")

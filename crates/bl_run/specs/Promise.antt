@@ -37,11 +37,13 @@ EndsInAnswer _ = ⊥
 -- a cause that stands in the files gives its ending
 pub record IsDue (words : List (List ℕ)) (ending : Ending) (files : Files) : Type 0 where
   pub refused : (run : Run) (file : List ℕ) (place : Place) (rule : List ℕ)
-      → AreSolveWords words run.words → RefusesText (Some files) run file place rule → (ending ≡ BadText file place rule) ⊎ ComesFirst ending
+      → AreSolveWords words run.words → RefusesText (Some files) run file place rule
+      → (ending ≡ BadText file place rule) ⊎ ComesFirst ending
   pub missing : (run : Run) (file : List ℕ)
       → AreSolveWords words run.words → IsMissing (Some files) run file → (ending ≡ Missing file) ⊎ ComesFirst ending
   pub answered : (run : Run)
-      → AreSolveWords words run.words → ReadsBoth (Some files) run → point_count (root (program run)) ≤ MAX_WALK_POINTS → EndsInAnswer ending ⊎ ComesFirst ending
+      → AreSolveWords words run.words → ReadsBoth (Some files) run
+      → point_count (root (program run)) ≤ MAX_WALK_POINTS → EndsInAnswer ending ⊎ ComesFirst ending
 
 -- what the ending leaves on the output: the report, some first bytes of it, or nothing
 abbrev pub Prints : Run → Ending → Option (List ℕ) → Option (List ℕ) → Type 0
@@ -62,8 +64,10 @@ MissesAt _ old new = new ≡ old
 
 -- a write fault of a file is counted by the files, and one of the output by the output; else none is
 abbrev pub WriteFaultsAt : Ending → Outside → Outside → Type 0
-WriteFaultsAt (WriteFault (ToFile name)) old new = Grew old.files.write_faults new.files.write_faults × (new.out.faults ≡ old.out.faults)
-WriteFaultsAt (WriteFault ToOutput) old new = Grew old.out.faults new.out.faults × (new.files.write_faults ≡ old.files.write_faults)
+WriteFaultsAt (WriteFault (ToFile name)) old new = Grew old.files.write_faults new.files.write_faults
+    × (new.out.faults ≡ old.out.faults)
+WriteFaultsAt (WriteFault ToOutput) old new = Grew old.out.faults new.out.faults
+    × (new.files.write_faults ≡ old.files.write_faults)
 WriteFaultsAt _ old new = (new.files.write_faults ≡ old.files.write_faults) × (new.out.faults ≡ old.out.faults)
 
 -- what an ending leaves outside: what is printed, what is counted, and each file as it was
@@ -74,14 +78,18 @@ pub record Leaves (run : Run) (ending : Ending) (old new : Outside) : Type 0 whe
   pub write_faults : WriteFaultsAt ending old new
   pub files : new.files.contents ≡ old.files.contents
 
--- The line stands at the end, or some first bytes of it do and the count of faults rose. Without a line nothing has changed.
+-- The line stands at the end, or some first bytes of it do and the count of faults rose. Without a line nothing has
+-- changed.
 abbrev pub Tells : Option (List ℕ) → SinkState → SinkState → Type 0
 Tells None old new = new ≡ old
 Tells (Some line) old new =
-    (Told (Adds line) old.bytes new.bytes × (new.faults ≡ old.faults)) ⊎ (Told (AddsPrefix line) old.bytes new.bytes × Grew old.faults new.faults)
+    (Told (Adds line) old.bytes new.bytes × (new.faults ≡ old.faults))
+    ⊎ (Told (AddsPrefix line) old.bytes new.bytes × Grew old.faults new.faults)
 
--- The promise of a top call. There is one run, of which all the rest is said, and one ending. The status is the ending's, whose cause
--- stands; where the files are told, a cause that stands gives its ending; the rest is what is left on the files and the two outputs.
+-- The promise of a top call. There is one run, of which all the rest is said, and one ending. The status is the
+-- ending's, whose cause
+-- stands; where the files are told, a cause that stands gives its ending; the rest is what is left on the files and
+-- the two outputs.
 pub record Promise (words : List (List ℕ)) (old new : Outside) (old_err new_err : SinkState) (status : ℕ) : Type 0 where
   pub run : Run
   pub ending : Ending

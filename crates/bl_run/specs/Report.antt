@@ -28,7 +28,8 @@ column_lines (column ∷ columns) (value ∷ point) = column_line column value +
 -- the report of an optimal point: its value to the leader, the follower's value, and each column's
 unfoldable pub optimal_text : List RawColumn → List ℤ → ℤ → ℤ → List ℕ
 optimal_text columns point value follower =
-    codes "optimal\nvalue " ++ signed_decimal value ++ codes "\nfollower " ++ signed_decimal follower ++ codes "\n" ++ column_lines columns point
+    codes "optimal\nvalue " ++ signed_decimal value ++ codes "\nfollower " ++ signed_decimal follower ++ codes "\n" ++
+    column_lines columns point
 
 -- the report of a statement of a program with these columns; the follower's value is in the sense of the auxiliary text
 abbrev pub report_of : List RawColumn → Program → Statement → List ℕ

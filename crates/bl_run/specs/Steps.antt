@@ -84,7 +84,8 @@ pub record HasText (files : Option Files) (name : List ℕ) (P : List ℕ → Ty
 -- why the file of this name isn't read, where a text is refused at a place and by a rule of which Bad holds
 abbrev pub FailsToRead : Option Files → List ℕ → (List ℕ → Place → List ℕ → Type 0) → Failure → Type 0
 FailsToRead files name Bad failure.Words = ⊥
-FailsToRead files name Bad (failure.Text file fault) = (file.now ≡ name) × HasText files name (λ text. Bad text (place_of fault.place) fault.rule.now)
+FailsToRead files name Bad (failure.Text file fault) = (file.now ≡ name)
+    × HasText files name (λ text. Bad text (place_of fault.place) fault.rule.now)
 FailsToRead files name Bad (failure.ReadFault file) = file.now ≡ name
 FailsToRead files name Bad failure.WriteFault = ⊥
 FailsToRead files name Bad failure.Memory = ⊤
@@ -105,11 +106,13 @@ pub record IsReport (columns : List RawColumn) (p : Program) (answer : Answer) (
   pub same : ending_of statement ≡ answer_ending answer
   pub spelled : text ≡ report_of columns p statement
 
--- why a model and its follower have no report: the box has too many points, for which the MPS file is named, or there is no memory
+-- why a model and its follower have no report: the box has too many points, for which the MPS file is named, or there
+-- is no memory
 abbrev pub FailsToSolve : List ℕ → RawMps → RawAux → Failure → Type 0
 FailsToSolve name mps aux failure.Words = ⊥
 FailsToSolve name mps aux (failure.Text file fault) =
-    (file.now ≡ name) × IsNotYet (place_of fault.place) fault.rule.now × (MAX_WALK_POINTS < point_count (root (program_of mps aux)))
+    (file.now ≡ name) × IsNotYet (place_of fault.place) fault.rule.now
+    × (MAX_WALK_POINTS < point_count (root (program_of mps aux)))
 FailsToSolve name mps aux (failure.ReadFault file) = ⊥
 FailsToSolve name mps aux failure.WriteFault = ⊥
 FailsToSolve name mps aux failure.Memory = ⊤

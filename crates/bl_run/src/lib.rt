@@ -11,4 +11,4 @@ mod top;
 mod words;
 
 pub use status::Status;
-pub use top::{run, run_alone, out_of_memory};
+pub use top::{out_of_memory, run, run_alone};

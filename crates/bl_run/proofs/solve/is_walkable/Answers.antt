@@ -16,8 +16,12 @@ returns-then-count-gt-MAX_WALK_POINTS c =
     let above = point_count-above p (suc column) c.lo-lo.ensures.model (omega (arith, below)) in
     let lo-fits : FitsSigned w64 (slice_index_or c.lo-lo.result.now column (pos 0)) = search rules in
     let hi-fits : FitsSigned w64 (slice_index_or c.hi-hi.result.now column (pos 0)) = search rules in
-    let lo-is = to_z-of_z w64 (slice_index_or c.lo-lo.result.now column (pos 0)) lo-fits ∙ ap (λ (xs : List ℤ). component xs column) c.lo-lo.ensures.lo in
-    let hi-is = to_z-of_z w64 (slice_index_or c.hi-hi.result.now column (pos 0)) hi-fits ∙ ap (λ (xs : List ℤ). component xs column) c.hi-hi.ensures.hi in
-    let width : c.width-count.result ≡ width_at (root p) column = c.width-count.ensures.width ∙ rw (lo-is, hi-is) refl in
-    let count = ap (λ (n : ℕ). n * c.width-count.result) c.loop-column.invariant.count ∙ ap (λ (n : ℕ). product_below column (width_at (root p)) * n) width in
+    let lo-is = to_z-of_z w64 (slice_index_or c.lo-lo.result.now column (pos 0)) lo-fits
+    ∙ ap (λ (xs : List ℤ). component xs column) c.lo-lo.ensures.lo in
+    let hi-is = to_z-of_z w64 (slice_index_or c.hi-hi.result.now column (pos 0)) hi-fits
+    ∙ ap (λ (xs : List ℤ). component xs column) c.hi-hi.ensures.hi in
+    let width : c.width-count.result ≡ width_at (root p) column = c.width-count.ensures.width
+    ∙ rw (lo-is, hi-is) refl in
+    let count = ap (λ (n : ℕ). n * c.width-count.result) c.loop-column.invariant.count
+    ∙ ap (λ (n : ℕ). product_below column (width_at (root p)) * n) width in
     (λ no. cc, λ few. absurd (omega (arith, few, above, count, c.if-count-gt-MAX_WALK_POINTS.true)))

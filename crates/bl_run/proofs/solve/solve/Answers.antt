@@ -8,14 +8,17 @@ returns-in_err-mps g c =
     let asked : SolveWords = record { mps = c.args.words.mps.now; aux = c.args.words.aux.now } in
     let p = err_from_is_err_and c.from_residual.result c.from_residual.ensures.1 in
     rw (p.1, p.2)
-    (mps_stops asked (g.F.Shelf.state c.args.files.now) (g.F.Shelf.state c.read_mps.new.files) (g.O.Sink.state c.args.out.now) c.in_err-mps.field-0.0 c.in_err-mps.ensures.failed c.in_err-mps.ensures.counts)
+    (mps_stops asked (g.F.Shelf.state c.args.files.now) (g.F.Shelf.state c.read_mps.new.files)
+    (g.O.Sink.state c.args.out.now) c.in_err-mps.field-0.0 c.in_err-mps.ensures.failed c.in_err-mps.ensures.counts)
 
 pub returns-in_err-aux : goal.returns-in_err-aux
 returns-in_err-aux g c =
     let asked : SolveWords = record { mps = c.args.words.mps.now; aux = c.args.words.aux.now } in
     let p = err_from_is_err_and c.from_residual-in_err-aux.result c.from_residual-in_err-aux.ensures.1 in
     rw (p.1, p.2)
-    (aux_stops asked (g.F.Shelf.state c.args.files.now) (g.F.Shelf.state c.read_mps.new.files) (g.F.Shelf.state c.read_aux.new.files) (g.O.Sink.state c.args.out.now) c.in_ok-mps.mps c.in_ok-mps.ensures.read c.in_ok-mps.ensures.counts
+    (aux_stops asked (g.F.Shelf.state c.args.files.now) (g.F.Shelf.state c.read_mps.new.files)
+    (g.F.Shelf.state c.read_aux.new.files) (g.O.Sink.state c.args.out.now) c.in_ok-mps.mps
+    c.in_ok-mps.ensures.read c.in_ok-mps.ensures.counts
     c.in_err-aux.field-0.0 c.in_err-aux.ensures.failed c.in_err-aux.ensures.counts)
 
 pub returns-in_err-report : goal.returns-in_err-report
@@ -23,21 +26,29 @@ returns-in_err-report g c =
     let asked : SolveWords = record { mps = c.args.words.mps.now; aux = c.args.words.aux.now } in
     let p = err_from_is_err_and c.from_residual-in_err-report.result c.from_residual-in_err-report.ensures.1 in
     rw (p.1, p.2)
-    (solving_stops asked (g.F.Shelf.state c.args.files.now) (g.F.Shelf.state c.read_mps.new.files) (g.F.Shelf.state c.read_aux.new.files) c.in_ok-mps.mps c.in_ok-aux.aux
-    c.in_ok-mps.ensures.read c.in_ok-mps.ensures.counts c.in_ok-aux.ensures.read c.in_ok-aux.ensures.counts (g.O.Sink.state c.args.out.now) c.in_err-report.field-0.0 c.in_err-report.ensures.failed)
+    (solving_stops asked (g.F.Shelf.state c.args.files.now) (g.F.Shelf.state c.read_mps.new.files)
+    (g.F.Shelf.state c.read_aux.new.files) c.in_ok-mps.mps c.in_ok-aux.aux
+    c.in_ok-mps.ensures.read c.in_ok-mps.ensures.counts c.in_ok-aux.ensures.read c.in_ok-aux.ensures.counts
+    (g.O.Sink.state c.args.out.now) c.in_err-report.field-0.0 c.in_err-report.ensures.failed)
 
 pub returns-in_err-put : goal.returns-in_err-put
 returns-in_err-put g c =
     let asked : SolveWords = record { mps = c.args.words.mps.now; aux = c.args.words.aux.now } in
     let p = err_from_is_err_and c.from_residual-in_err-put.result c.from_residual-in_err-put.ensures.1 in
     rw (p.1, p.2)
-    (printing_stops asked (g.F.Shelf.state c.args.files.now) (g.F.Shelf.state c.read_mps.new.files) (g.F.Shelf.state c.read_aux.new.files) c.in_ok-mps.mps c.in_ok-aux.aux
-    c.in_ok-mps.ensures.read c.in_ok-mps.ensures.counts c.in_ok-aux.ensures.read c.in_ok-aux.ensures.counts (g.O.Sink.state c.args.out.now) (g.O.Sink.state c.put.new.self)
-    c.in_ok-report.report.text.items c.in_ok-report.report.answer c.in_ok-report.ensures.few c.in_ok-report.ensures.report (rw c.deref.ensures.value at c.in_err-put.ensures.err) c.in_err-put.ensures.fault)
+    (printing_stops asked (g.F.Shelf.state c.args.files.now) (g.F.Shelf.state c.read_mps.new.files)
+    (g.F.Shelf.state c.read_aux.new.files) c.in_ok-mps.mps c.in_ok-aux.aux
+    c.in_ok-mps.ensures.read c.in_ok-mps.ensures.counts c.in_ok-aux.ensures.read c.in_ok-aux.ensures.counts
+    (g.O.Sink.state c.args.out.now) (g.O.Sink.state c.put.new.self)
+    c.in_ok-report.report.text.items c.in_ok-report.report.answer c.in_ok-report.ensures.few
+    c.in_ok-report.ensures.report (rw c.deref.ensures.value at c.in_err-put.ensures.err) c.in_err-put.ensures.fault)
 
 pub returns : goal.returns
 returns g c =
     let asked : SolveWords = record { mps = c.args.words.mps.now; aux = c.args.words.aux.now } in
-    answered asked (g.F.Shelf.state c.args.files.now) (g.F.Shelf.state c.read_mps.new.files) (g.F.Shelf.state c.read_aux.new.files) c.in_ok-mps.mps c.in_ok-aux.aux
-    c.in_ok-mps.ensures.read c.in_ok-mps.ensures.counts c.in_ok-aux.ensures.read c.in_ok-aux.ensures.counts (g.O.Sink.state c.args.out.now) (g.O.Sink.state c.put.new.self)
-    c.in_ok-report.report.text.items c.in_ok-report.report.answer c.in_ok-report.ensures.few c.in_ok-report.ensures.report (rw c.deref.ensures.value at c.in_ok-put.ensures.ok) c.in_ok-put.ensures.fault
+    answered asked (g.F.Shelf.state c.args.files.now) (g.F.Shelf.state c.read_mps.new.files)
+    (g.F.Shelf.state c.read_aux.new.files) c.in_ok-mps.mps c.in_ok-aux.aux
+    c.in_ok-mps.ensures.read c.in_ok-mps.ensures.counts c.in_ok-aux.ensures.read c.in_ok-aux.ensures.counts
+    (g.O.Sink.state c.args.out.now) (g.O.Sink.state c.put.new.self)
+    c.in_ok-report.report.text.items c.in_ok-report.report.answer c.in_ok-report.ensures.few
+    c.in_ok-report.ensures.report (rw c.deref.ensures.value at c.in_ok-put.ensures.ok) c.in_ok-put.ensures.fault

@@ -10,6 +10,7 @@ invariant-loop-piece g l =
     let before = g.E.Sink.state l.initial.err in
     let now = g.E.Sink.state l.err in
     record {
-      put : Told (Adds (flat_map (λ (piece : Bor (List ℕ)). piece.now) (take l.piece-index l.pieces))) before.bytes now.bytes;
+      put : Told (Adds (flat_map (λ (piece : Bor (List ℕ)). piece.now) (take l.piece-index l.pieces))) before.bytes
+          now.bytes;
       unfaulted : now.faults ≡ before.faults;
     }
