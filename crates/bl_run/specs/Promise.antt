@@ -78,18 +78,16 @@ pub record Leaves (run : Run) (ending : Ending) (old new : Outside) : Type 0 whe
   pub write_faults : WriteFaultsAt ending old new
   pub files : new.files.contents ≡ old.files.contents
 
--- The line stands at the end, or some first bytes of it do and the count of faults rose. Without a line nothing has
--- changed.
+-- The line stands at the end, or some first bytes of it do and the count of faults rose. Without a line nothing changed.
 abbrev pub Tells : Option (List ℕ) → SinkState → SinkState → Type 0
 Tells None old new = new ≡ old
 Tells (Some line) old new =
     (Told (Adds line) old.bytes new.bytes × (new.faults ≡ old.faults))
     ⊎ (Told (AddsPrefix line) old.bytes new.bytes × Grew old.faults new.faults)
 
--- The promise of a top call. There is one run, of which all the rest is said, and one ending. The status is the
--- ending's, whose cause
--- stands; where the files are told, a cause that stands gives its ending; the rest is what is left on the files and
--- the two outputs.
+-- The promise of a top call. There is one run, of which all the rest is said, and one ending, whose status is answered
+-- and whose cause stands. Words that ask for nothing end so; where the files are told, a cause that stands in them gives
+-- its ending. The rest is what is left on the files and on the two outputs.
 pub record Promise (words : List (List ℕ)) (old new : Outside) (old_err new_err : SinkState) (status : ℕ) : Type 0 where
   pub run : Run
   pub ending : Ending

@@ -12,9 +12,8 @@ use Rattle.bl_run.specs.Report.{Statement, Best, None, Answers, report_of}
 use Rattle.bl_run.specs.Endings.{Place, ToFile, ToOutput, Ending, Done, NoPoint, BadWords, BadText, NodesSpent, FollowerSpent, ReadFault, WriteFault, OutOfMemory, NotAccepted, Missing, ManyPoints}
 use Rattle.bl_limits.specs.declared.TheConstants.{MAX_WALK_POINTS}
 
--- One run: its words, the texts of its files, what they say, and the statement that answers them. All that is
--- promised of a
--- command is said of one run. Of a run that ended early, what it didn't come to is left open.
+-- One run: its words, the texts of its files, what they say, and the statement that answers them. All that is promised
+-- of a command is said of one run. Of a run that ended early, what it didn't come to is left open.
 pub record Run : Type 0 where
   pub words : SolveWords
   pub mps_text : List ℕ
