@@ -2,6 +2,10 @@ pub mod Capping
 pub mod Decimals
 pub mod Magnitudes
 pub mod Moves
+pub mod Meanings
+pub mod Parsings
+pub mod Partings
 pub mod Points
 pub mod Quotients
 pub mod Splits
+pub mod Worths

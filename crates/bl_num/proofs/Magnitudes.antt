@@ -62,7 +62,7 @@ magnitude-raised parts e =
     (coefficient_of parts * 10 ^ digits_value 10 (without_leading_plus parts.exponent)) (10 ^ k))
     (plus_none (length parts.fraction)))
 
-nat_le_false : (n : ℕ) → MAX_WHOLE < n → leb n MAX_WHOLE ≡ false
+pub nat_le_false : (n : ℕ) → MAX_WHOLE < n → leb n MAX_WHOLE ≡ false
 nat_le_false n h = grind (arith, nat_tests)
 
 limited-some : (negative : Bool) (number : ℕ) → limited negative (Some (capped number)) ≡ limited negative (Some number)
