@@ -1,12 +1,12 @@
 -- What a text says is a follower of the model.
-use Rattle.std.proofs.Common.{◌≡◌, ◌≢◌, ◌⊎◌, ℕ, zero, suc, ◌+◌, ◌<◌, ◌≤◌, Bool, true, false, cond, ltb, List, [], ◌∷◌, ◌++◌, length, map, take, get_or, Option, Some, None, Ok, Err, Result, refl, sym, ap, subst, ◌∙◌, arith, inl, inr, ℤ, pos, negsuc, ◌||◌, append_assoc, length-append, unsigned_abs}
-use Rattle.std.specs.List.{All, AllPairs, list_any, filter_map}
+use Rattle.std.proofs.Common.{◌≡◌, ◌≢◌, ℕ, zero, suc, ◌<◌, Bool, true, false, cond, List, [], ◌∷◌, ◌++◌, length, map, get_or, Option, Some, None, refl, sym, ap, subst, ◌∙◌, arith, inl, inr, ℤ, pos, negsuc, ◌||◌, unsigned_abs}
+use Rattle.std.specs.List.{All, AllPairs, list_any}
 use Rattle.std.specs.Ordering.{int_eq}
 use Rattle.std.proofs.lemmas.Bool.{ltb-false, ltb-true, false≢true}
 use Rattle.std.proofs.lemmas.Bool.Decides.{Decides-int_eq}
 use Rattle.std.proofs.Math.ListN.{get_or-map}
 use Rattle.std.proofs.lemmas.List.{length-map}
-use Rattle.std.proofs.lemmas.List.Elements.{All-nil, All-push}
+use Rattle.std.proofs.lemmas.List.Elements.{All-push}
 use Rattle.std.proofs.lemmas.List.Quantifiers.{all_pairs_push}
 use Rattle.bl_limits.specs.declared.TheConstants.{MAX_NUMBER}
 use Rattle.bl_raw.specs.declared.raw.RawAux.{RawAux}
@@ -16,7 +16,7 @@ use Rattle.bl_aux.specs.declared.keys.Key.TheVariants.{N, M, Lc, Lr, Lo, Os}
 use Rattle.bl_aux.specs.declared.fault.AuxRule.{AuxRule}
 use Rattle.bl_aux.specs.declared.fault.AuxRule.TheVariants.{OutOfOrder, Repeated, BadSense}
 use Rattle.bl_aux.specs.Lines.{is_large}
-use Rattle.bl_aux.specs.Given.{Given, Sizes, is_empty, is_out_of_order, is_below, bad_index, index_rule, sense_rule, key_rule, entry_rule}
+use Rattle.bl_aux.specs.Given.{Given, Sizes, is_out_of_order, is_below, bad_index, index_rule, sense_rule, key_rule, entry_rule}
 use Rattle.bl_aux.specs.Texts.{CountsAgree, IsGiven, sense_of}
 use Rattle.bl_aux.specs.Drafts.{with_number}
 

@@ -1,13 +1,11 @@
 -- Lines that break no rule give a follower.
-use Rattle.std.proofs.Common.{◌≡◌, ℕ, ◌<◌, ◌≤◌, Bool, true, false, cond, List, [], ◌∷◌, ◌++◌, length, Option, Some, None, Ok, Err, Result, refl, sym, ap, subst, ◌∙◌, arith, append_assoc, length-append, ℤ}
+use Rattle.std.proofs.Common.{◌≡◌, ℕ, Bool, true, false, List, [], ◌∷◌, ◌++◌, length, Option, Some, None, Ok, Err, Result, refl, sym, ap, subst, ◌∙◌, arith, append_assoc, length-append, ℤ}
 use Rattle.std.proofs.lemmas.List.{append-nil}
 use Rattle.std.proofs.lemmas.List.Elements.{All-nil}
 use Rattle.bl_num.specs.declared.fault.NumFault.{NumFault}
 use Rattle.bl_num.specs.declared.fault.NumFault.TheVariants.{NotNumber, NotWhole, TooLarge as NumTooLarge}
 use Rattle.bl_num.specs.Numbers.{read_of}
 use Rattle.bl_raw.specs.Raw.{IsSmall, IsSense}
-use Rattle.bl_raw.specs.declared.raw.RawAux.{RawAux}
-use Rattle.bl_raw.specs.Raw.{FitsModel}
 use Rattle.bl_text.specs.Fields.{fields_of}
 use Rattle.bl_text.specs.Lines.{lines_of}
 use Rattle.bl_aux.specs.declared.keys.Key.{Key}
@@ -15,11 +13,11 @@ use Rattle.bl_aux.specs.declared.line.Entry.{Entry}
 use Rattle.bl_aux.specs.declared.fault.AuxRule.{AuxRule}
 use Rattle.bl_aux.specs.declared.fault.AuxRule.TheVariants.{Unsupported, TooLarge}
 use Rattle.bl_aux.specs.Lines.{is_large, is_unsupported, sized, numbered, keyed, key_of, two_fields, said}
-use Rattle.bl_aux.specs.Given.{Given, Sizes, entries_of, given_by, said_rule, fields_rule, line_rule}
-use Rattle.bl_aux.specs.Texts.{KeepsRules, Says}
-use Rattle.bl_aux.specs.Drafts.{Holding, with_number}
+use Rattle.bl_aux.specs.Given.{Sizes, entries_of, given_by, said_rule, fields_rule, line_rule}
+use Rattle.bl_aux.specs.Texts.{KeepsRules}
+use Rattle.bl_aux.specs.Drafts.{Holding}
 use Rattle.bl_aux.specs.Laws.{SaysFollowers}
-use Rattle.bl_aux.proofs.EntryLaws.{held_by, held-nothing, held-entry}
+use Rattle.bl_aux.proofs.EntryLaws.{held-nothing, held-entry}
 use Rattle.bl_aux.proofs.FaultLaws.{Lines, rule_at-seam}
 use Rattle.bl_aux.proofs.Followers.{IsGood, good-entry, fits}
 

@@ -1,5 +1,5 @@
 -- A text has at most as many lines as bytes.
-use Rattle.std.proofs.Common.{◌≡◌, ℕ, ◌+◌, ◌≤◌, Bool, true, false, cond, eqb, List, [], ◌∷◌, length, refl, arith}
+use Rattle.std.proofs.Common.{◌≡◌, ℕ, ◌+◌, ◌≤◌, Bool, true, false, eqb, List, [], ◌∷◌, length, refl, arith}
 use Rattle.std.specs.List.{onto_first}
 use Rattle.bl_text.specs.Lines.{lines_of}
 

@@ -1,5 +1,5 @@
 -- Places that are given, and those that may follow.
-use Rattle.std.proofs.Common.{◌≡◌, ℕ, ◌<◌, ◌≤◌, Bool, true, false, cond, eqb, ltb, List, [], ◌∷◌, ◌++◌, Option, Some, None, refl, sym, ap, ◌∙◌, arith, ℤ, pos, negsuc, map, nat_eq, eq-eqb, ◌&&◌}
+use Rattle.std.proofs.Common.{◌≡◌, ℕ, ◌<◌, Bool, true, false, cond, ltb, List, [], ◌∷◌, ◌++◌, Some, None, refl, sym, ap, ◌∙◌, ℤ, pos, negsuc, map, nat_eq, eq-eqb}
 use Rattle.std.specs.List.{list_any, list_all}
 use Rattle.std.specs.Ordering.{int_eq}
 use Rattle.std.proofs.lemmas.Bool.{eqb-true, ltb-true, lt-ltb, false≢true}
@@ -7,7 +7,7 @@ use Rattle.std.proofs.lemmas.Bool.Decides.{Decides-int_eq, same_from_decides}
 use Rattle.std.proofs.lemmas.List.{map_push}
 use Rattle.bl_text.proofs.Digits.{and_true}
 use Rattle.bl_aux.specs.declared.fault.AuxRule.TheVariants.{Repeated, BadIndex}
-use Rattle.bl_aux.specs.Given.{is_below, bad_index, index_rule}
+use Rattle.bl_aux.specs.Given.{is_below, index_rule}
 use Rattle.bl_aux.specs.Drafts.{place_below}
 
 abbrev pub AreBelow : ℕ → List ℕ → Type 0

@@ -1,12 +1,11 @@
 -- The value of a number whose point moves.
-use Rattle.std.proofs.Common.{◌≡◌, ℕ, ◌+◌, ◌-◌, ◌*◌, ◌^◌, ◌<◌, ◌≤◌, Bool, true, false, cond, eqb, List, [], ◌++◌, length, Option, Some, None, refl, sym, ap, ◌∙◌, arith, append_assoc, length-append}
+use Rattle.std.proofs.Common.{◌≡◌, ℕ, ◌+◌, ◌-◌, ◌*◌, ◌^◌, ◌<◌, ◌≤◌, cond, eqb, List, ◌++◌, length, Some, None, sym, ap, ◌∙◌, arith, append_assoc, length-append}
 use Rattle.std.specs.Str.Parse.{AllDigits, digits_value}
 use Rattle.std.proofs.Math.Nat.{one-le-pow, pow-le-pow_right}
-use Rattle.std.proofs.lemmas.Nat.{pow-add, mul-lt, mul-le}
+use Rattle.std.proofs.lemmas.Nat.{pow-add, mul-le}
 use Rattle.std.proofs.lemmas.Int.Digits.{digits_value-lt}
-use Rattle.bl_num.specs.Numbers.{exact_quotient}
-use Rattle.bl_num.specs.Capped.{are_zeros, raised_magnitude, lowered_magnitude}
-use Rattle.bl_num.proofs.Decimals.{AllDigits-append, value-append, zeros-value, nonzeros-value}
+use Rattle.bl_num.specs.Capped.{raised_magnitude, lowered_magnitude}
+use Rattle.bl_num.proofs.Decimals.{AllDigits-append, value-append}
 use Rattle.bl_num.proofs.Quotients.{exact_quotient-split}
 
 -- the point moves past digits at the end of the whole part

@@ -1,5 +1,5 @@
 -- Trusted. The grammar of numbers, what a number is worth, and what a text is read as.
-use Rattle.std.specs.Prelude.{◌≡◌, ◌≢◌, ℕ, ◌+◌, ◌*◌, ◌^◌, ◌<◌, ◌≤◌, ℤ, pos, ◌*ℤ◌, int_lt, unsigned_abs, Bool, true, false, List, [], ◌∷◌, ◌++◌, length, Option, Some, None, Result, Ok, Err, if◌then◌else◌}
+use Rattle.std.specs.Prelude.{◌≡◌, ℕ, ◌+◌, ◌*◌, ◌^◌, ◌<◌, ◌≤◌, ℤ, pos, ◌*ℤ◌, int_lt, unsigned_abs, Bool, true, false, List, [], ◌∷◌, ◌++◌, length, Option, Some, None, Result, Ok, Err, if◌then◌else◌}
 use Rattle.std.specs.Fmt.{signed_decimal}
 use Rattle.std.specs.Str.Parse.{IsNumeral, digits_value}
 use Rattle.bl_limits.specs.declared.TheConstants.{MAX_WHOLE}
@@ -74,8 +74,8 @@ abbrev pub IsWorth : Number → ℤ → Type 0
 IsWorth n z =
     z *ℤ pos (10 ^ (length (fraction_digits n.fraction) + (if is_lowered n.exponent then power n.exponent else 0)))
     ≡ signed (is_minus n.sign)
-        (digits_value 10 (n.whole ++ fraction_digits n.fraction)
-        * 10 ^ (if is_lowered n.exponent then 0 else power n.exponent))
+    (digits_value 10 (n.whole ++ fraction_digits n.fraction)
+    * 10 ^ (if is_lowered n.exponent then 0 else power n.exponent))
 
 -- the text is this number
 pub record IsText (text : List ℕ) (n : Number) : Type 0 where
@@ -88,7 +88,8 @@ Reads text (Ok z) = (n : Number) × IsText text n × IsWorth n z × (unsigned_ab
 Reads text (Err NotNumber) = (n : Number) → IsText text n → ⊥
 Reads text (Err NotWhole) = (n : Number) × IsText text n × ((z : ℤ) → IsWorth n z → ⊥)
 Reads text (Err (TooLarge negative)) =
-    (n : Number) × IsText text n × ((z : ℤ) × IsWorth n z × (MAX_WHOLE < unsigned_abs z) × (negative ≡ int_lt z (pos 0)))
+    (n : Number) × IsText text n
+    × ((z : ℤ) × IsWorth n z × (MAX_WHOLE < unsigned_abs z) × (negative ≡ int_lt z (pos 0)))
 
 -- `read_of` gives what a text is read as, and nothing else is.
 pub record ReadsNumbers : Type 0 where

@@ -1,5 +1,5 @@
 -- Trusted. The commands and their options: a row for each.
-use Rattle.std.specs.Prelude.{ℕ, Bool, true, false, List, [], ◌∷◌, ◌++◌, codes, not, ◌==◌}
+use Rattle.std.specs.Prelude.{ℕ, Bool, true, false, List, [], ◌∷◌, codes, not, ◌==◌}
 use Rattle.bl_words.specs.declared.commands.Command.{Command}
 use Rattle.bl_words.specs.declared.commands.Command.TheVariants.{Solve, Show}
 use Rattle.bl_words.specs.declared.commands.Choice.{Choice}

@@ -1,5 +1,5 @@
 -- Internal. The items as they are read word by word.
-use Rattle.std.specs.Prelude.{◌≡◌, ℕ, ℤ, pos, Bool, true, false, ◌&&◌, ◌==◌, nat_le, List, [], ◌∷◌, ◌++◌, Option, None, Some, if◌then◌else◌, codes}
+use Rattle.std.specs.Prelude.{ℕ, Bool, ◌&&◌, ◌==◌, List, [], ◌∷◌, ◌++◌, Option, None, Some, if◌then◌else◌, codes}
 use Rattle.std.specs.List.{before_first, after_first}
 use Rattle.std.specs.Str.{bytes_eq}
 use Rattle.std.specs.Option.{option_and_then, option_to_list}
@@ -18,7 +18,8 @@ is_equals byte = byte == 61
 
 -- the command's option of this word
 abbrev pub choice_of : Command → List ℕ → Option Choice
-choice_of command word = if bytes_eq word (codes "--default-upper") && takes command DefaultUpper then Some DefaultUpper else None
+choice_of command word =
+    if bytes_eq word (codes "--default-upper") && takes command DefaultUpper then Some DefaultUpper else None
 
 abbrev pub texted : Option Choice → List ℕ → Option Step
 texted choice text = if is_plain text then Some (Some (record { choice = choice; text = text }), None) else None

@@ -1,4 +1,4 @@
-use Rattle.std.proofs.Common.{sym, ◌∙◌, ap, ◌∷◌, [], ◌+◌, drop, Option, ℕ}
+use Rattle.std.proofs.Common.{◌∙◌, ap, ◌∷◌, [], ◌+◌, drop, Option, ℕ}
 use Rattle.std.specs.Option.{option_map_or}
 use Rattle.std.proofs.lemmas.List.{take_rest}
 use Rattle.bl_num.specs.Numbers.{is_mark}
