@@ -10,3 +10,6 @@ mod words;
 
 pub use commands::{Choice, Command};
 pub use words::{ShowWords, SolveWords, show_words, solve_words};
+
+#[cfg(test)]
+mod tests;
