@@ -1,0 +1,50 @@
+-- Internal. The items as they are read word by word.
+use Rattle.std.specs.Prelude.{◌≡◌, ℕ, ℤ, pos, Bool, true, false, ◌&&◌, ◌==◌, nat_le, List, [], ◌∷◌, ◌++◌, Option, None, Some, if◌then◌else◌, codes}
+use Rattle.std.specs.List.{before_first, after_first}
+use Rattle.std.specs.Str.{bytes_eq}
+use Rattle.std.specs.Option.{option_and_then, option_to_list}
+use Rattle.bl_words.specs.declared.commands.Command.{Command}
+use Rattle.bl_words.specs.declared.commands.Choice.{Choice}
+use Rattle.bl_words.specs.declared.commands.Choice.TheVariants.{DefaultUpper}
+use Rattle.bl_words.specs.Commands.{takes, is_plain}
+use Rattle.bl_words.specs.Items.{Item}
+
+-- what a word adds, and the option that waits for its value
+abbrev pub Step : Type 0
+Step = Option Item × Option Choice
+
+abbrev pub is_equals : ℕ → Bool
+is_equals byte = byte == 61
+
+-- the command's option of this word
+abbrev pub choice_of : Command → List ℕ → Option Choice
+choice_of command word = if bytes_eq word (codes "--default-upper") && takes command DefaultUpper then Some DefaultUpper else None
+
+abbrev pub texted : Option Choice → List ℕ → Option Step
+texted choice text = if is_plain text then Some (Some (record { choice = choice; text = text }), None) else None
+
+abbrev pub joined : Option Choice → List ℕ → Option Step
+joined (Some choice) text = texted (Some choice) text
+joined None text = None
+
+abbrev pub named : Option Choice → Command → List ℕ → Option Step
+named (Some choice) command word = Some (None, Some choice)
+named None command word = joined (choice_of command (before_first is_equals word)) (after_first is_equals word)
+
+unfoldable pub step : Command → Option Choice → List ℕ → Option Step
+step command (Some choice) word = texted (Some choice) word
+step command None word = if is_plain word then texted None word else named (choice_of command word) command word
+
+abbrev pub ended : List Item → Option Choice → Option (List Item)
+ended items None = Some items
+ended items (Some choice) = None
+
+unfoldable pub walk : Command → List Item → Option Choice → List (List ℕ) → Option (List Item)
+walk command items pending [] = ended items pending
+walk command items pending (word ∷ words) =
+    option_and_then (λ s. walk command (items ++ option_to_list s.0) s.1 words) (step command pending word)
+
+-- two different texts, and nothing else
+abbrev pub two_texts : List (List ℕ) → Option (List ℕ × List ℕ)
+two_texts (first ∷ second ∷ []) = if bytes_eq first second then None else Some (first, second)
+two_texts _ = None
