@@ -2,3 +2,9 @@ pub mod Agrees
 pub mod Names
 pub mod LineParts
 pub mod Rows
+pub mod Pairs
+pub mod Sides
+pub mod Bounds
+pub mod Slots
+pub mod ColumnNames
+pub mod Columns

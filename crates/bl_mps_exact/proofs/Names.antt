@@ -122,3 +122,23 @@ pub table_push : {X : Type 0} (f g : Bytes → X) (names : List Bytes) (name : B
 table_push f g names name x fresh same e =
     ap (λ (ys : List _). ys ++ x ∷ []) (table_same f g names (λ k lt. same (get_or names k []) (λ q. named_false_at names name fresh k [] lt q)))
     ∙ ap (λ (y : _). map g names ++ y ∷ []) e ∙ sym (map_push g names name)
+
+-- ---- names of which each stands once
+
+abbrev pub IsFresh : List Bytes → Type 0
+IsFresh [] = Unit {0}
+IsFresh (x ∷ xs) = (is_named xs x ≡ false) × IsFresh xs
+
+pub named_false_from : (names : List Bytes) (name : Bytes) → ((k : ℕ) (d : Bytes) → k < length names → get_or names k d ≡ name → ⊥) → is_named names name ≡ false
+named_false_from [] name h = refl
+named_false_from (x ∷ xs) name h =
+    let first : bytes_eq name x ≡ false = differ_false name x (λ e. h 0 [] (omega arith) (sym e)) in
+    rw first (named_false_from xs name (λ k d lt e. h (suc k) d (omega arith) e))
+
+pub fresh_distinct : (names : List Bytes) → AreDistinct names → IsFresh names
+fresh_distinct [] h = tt
+fresh_distinct (x ∷ xs) h =
+    (named_false_from xs x (λ k d lt e. h 0 (suc k) d (omega arith) (omega arith) (sym e)), fresh_distinct xs (λ i j d lt within e. h (suc i) (suc j) d (omega arith) (omega arith) e))
+
+pub named_true_from : (names : List Bytes) (name : Bytes) (k : ℕ) (d : Bytes) → k < length names → get_or names k d ≡ name → is_named names name ≡ true
+named_true_from names name k d lt e = named_true_at names name k d lt e

@@ -24,7 +24,7 @@ use Rattle.bl_mps_exact.proofs.Names.{AreDistinct, same_true, same_from, differ_
 
 -- ---- where a name stands, and the slot of a row
 
-pub place_in : List Bytes → Bytes → Option ℕ
+unfoldable pub place_in : List Bytes → Bytes → Option ℕ
 place_in [] name = None
 place_in (x ∷ xs) name = cond (bytes_eq name x) (Some 0) (option_map (λ k. k + 1) (place_in xs name))
 
@@ -128,7 +128,7 @@ unnamed_step : (test : Bool) (name : Bytes) (line : List Bytes) (lines : List (L
 unnamed_step true name line lines e f = rw e f
 unnamed_step false name line lines e f = f
 
-unnamed_bounded : (lines : List (List Bytes)) (name : Bytes) → is_named (row_names lines) name ≡ false → is_named (row_names (bounded_rows lines)) name ≡ false
+pub unnamed_bounded : (lines : List (List Bytes)) (name : Bytes) → is_named (row_names lines) name ≡ false → is_named (row_names (bounded_rows lines)) name ≡ false
 unnamed_bounded [] name f = refl
 unnamed_bounded (x ∷ lines) name f =
     let parts = or_false (bytes_eq name (field 1 x)) (is_named (row_names lines) name) f in
