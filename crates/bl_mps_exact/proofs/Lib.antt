@@ -8,3 +8,5 @@ pub mod Bounds
 pub mod Slots
 pub mod ColumnNames
 pub mod Columns
+pub mod Sections
+pub mod Lines
