@@ -10,3 +10,4 @@ pub mod ColumnNames
 pub mod Columns
 pub mod Sections
 pub mod Lines
+pub mod Model
