@@ -7,7 +7,7 @@ use Rattle.bl_limits.specs.declared.TheConstants.{MAX_WALK_POINTS}
 use Rattle.bl_raw.specs.declared.raw.RawMps.{RawMps}
 use Rattle.bl_raw.specs.declared.raw.RawAux.{RawAux}
 use Rattle.bl_model.specs.Build.{program_of}
-use Rattle.bl_mps.proofs.OneModel.{says_one}
+use Rattle.bl_mps_first.proofs.OneModel.{says_one}
 use Rattle.bl_aux.proofs.Meanings.{tells_one}
 use Rattle.bl_aux.specs.declared.fault.AuxFault.{AuxFault}
 use Rattle.bl_terms.specs.Programs.{root}
