@@ -1,0 +1,4 @@
+pub mod Orders
+pub mod Multiples
+pub mod Distances
+pub mod Points
