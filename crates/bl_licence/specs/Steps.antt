@@ -1,11 +1,14 @@
 -- Internal: what the steps of the tests compute.
-use Rattle.std.specs.Prelude.{◌≡◌, ℕ, zero, suc, ◌+◌, ◌*◌, ◌^◌, ◌<◌, ◌≤◌, ◌⊎◌, if◌then◌else◌, Option, Some, None, ℤ, pos, ◌+ℤ◌, ◌-ℤ◌, ◌*ℤ◌, ◌≤ℤ◌, ◌<ℤ◌, unsigned_abs, List, length}
+use Rattle.std.specs.Prelude.{◌≡◌, ℕ, zero, suc, ◌+◌, ◌*◌, ◌^◌, ◌<◌, ◌≤◌, ◌⊎◌, if◌then◌else◌, Option, Some, None, ℤ, pos, ◌+ℤ◌, ◌-ℤ◌, ◌*ℤ◌, ◌≤ℤ◌, ◌<ℤ◌, unsigned_abs, false, List, length, ◌++◌}
 use Rattle.bl_whole.specs.Sums.{component, sum_below}
 use Rattle.bl_limits.specs.declared.TheConstants.{MAX_NUMBER, MAX_PROOF_NUMBER}
 use Rattle.bl_terms.specs.Bounds.{Problem, linear_at}
 use Rattle.bl_simplex.specs.Fractions.{Fraction, IsReduced}
 use Rattle.bl_simplex.specs.Rationals.{fraction_at, common_denominator, times_multiple, IsAtMost}
-use Rattle.bl_simplex.specs.Dictionaries.{Dictionary, columns, start_at, sign_at}
+use Rattle.bl_simplex.specs.Dictionaries.{Dictionary, columns, start_at, sign_at, opening}
+use Rattle.bl_simplex.specs.Pivots.{replay, FailsFirstAt}
+use Rattle.bl_simplex.specs.Licences.{AreSteps}
+use Rattle.bl_tableau.specs.Runs.{Run}
 use Rattle.bl_tableau.specs.Cells.{AreReduced}
 use Rattle.bl_simplex.specs.LegalPivots.{IsLegal}
 use Rattle.bl_simplex.specs.Closing.{Closes}
@@ -55,3 +58,16 @@ pub record MayPivot (q : Problem) (u : Option ℤ) (d : Dictionary) (p : ℕ × 
 -- the size of a column times the common denominator
 abbrev pub scaled_size : ℕ
 scaled_size = 3 * (MAX_NUMBER * 2 ^ 50)
+
+-- the pivots were added, and the tableau is otherwise as before
+pub record Took (start : Run) (pivots : List (ℕ × ℕ)) (now : Run) : Type 0 where
+  pub problem : now.problem ≡ start.problem
+  pub most : now.most ≡ start.most
+  pub fresh : now.spent ≡ false
+  pub added : now.pivots ≡ start.pivots ++ pivots
+
+-- the first pivots are steps from the opening dictionary, and the last one is legal there and passes 128 bits first at (row, column)
+pub record EndsInWidth (q : Problem) (u : Option ℤ) (front : List (ℕ × ℕ)) (last : ℕ × ℕ) (row column : ℕ) : Type 0 where
+  pub steps : AreSteps q u (opening q) front
+  pub may : MayPivot q u (replay (opening q) front) last
+  pub wide : FailsFirstAt q (replay (opening q) front) last.0 last.1 row column

@@ -1,5 +1,5 @@
 //! Common denominators, and the whole numbers that they make of fractions.
-ghost use Rattle.std.specs.Prelude.{◌≡◌, ◌*◌, ◌<◌, ◌≤◌, pos, ◌*ℤ◌, ◌≤ℤ◌, length, IfOk, MatchOption, unsigned_abs};
+ghost use Rattle.std.specs.Prelude.{◌≡◌, ◌↔◌, IsTrue, ◌*◌, ◌<◌, ◌≤◌, pos, ◌*ℤ◌, ◌≤ℤ◌, length, IfOk, MatchOption, unsigned_abs};
 ghost use Rattle.std.specs.Int.{◌∣◌};
 ghost use Rattle.std.specs.Option.{SomeIff};
 ghost use Rattle.bl_simplex.specs.Gcd.{lcm};
@@ -96,4 +96,16 @@ pub fn whole_multiples(
         numbers.push(number)?;
     }
     Ok(Some((common, numbers)))
+}
+
+/// Whether the fractions, made whole by their common denominator, or that denominator pass the limit of proof numbers.
+pub(crate) fn pass_limit(alloc: Global, fractions: &[Frac]) -> Result<bool, AllocError>
+    requires { AreReduced fractions.now }
+    ensures { IfOk result (λ b. IsTrue b ↔ PassesLimit (length fractions.now) (fraction_at fractions.now)) }
+{
+    let numbers = whole_multiples(alloc, fractions)?;
+    match numbers {
+        Some(_) => Ok(false),
+        None => Ok(true),
+    }
 }
