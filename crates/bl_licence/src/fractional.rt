@@ -15,8 +15,8 @@ ghost use Rattle.bl_licence.specs.Steps.{IsBetween, IsScaledPoint, scaled_size};
 use crate::common::{LIMIT, common_denominator};
 use bl_bound::Problem;
 use bl_frac::{Frac, compare, is_whole, parts, whole};
-use bl_whole::int128::times;
 use bl_whole::int64;
+use bl_whole::int128::times;
 use std::alloc::{AllocError, Global};
 use std::cmp::Ordering;
 

@@ -8,10 +8,10 @@ mod closing;
 mod common;
 mod fractional;
 mod replay;
-mod vertex;
-mod why;
 #[cfg(test)]
 mod tests;
+mod vertex;
+mod why;
 
 pub use closing::{closes, cost_closes, first_closing_row};
 pub use common::{common_denominator, whole_multiples};

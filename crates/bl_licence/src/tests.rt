@@ -60,9 +60,16 @@ fn fractional_points(rt: HostRuntime) -> Result<(), Fail> {
     ];
     for (cutoff, pair, expected) in table {
         let why = fractions(rt.alloc(), &[pair])?;
-        assert_eq!(rt; is_licensed(&rt, rt.alloc(), &problem, cutoff, &why)?, expected);
+        assert_eq!(rt;
+            is_licensed(&rt, rt.alloc(), &problem, cutoff, &why)?,
+            expected
+        );
     }
-    for pairs in [[(3, 2), (1, 1)].as_slice(), [].as_slice(), [(7, 2)].as_slice()] {
+    for pairs in [
+        [(3, 2), (1, 1)].as_slice(),
+        [].as_slice(),
+        [(7, 2)].as_slice(),
+    ] {
         let why = fractions(rt.alloc(), pairs)?;
         assert!(rt; !is_licensed(&rt, rt.alloc(), &problem, None, &why)?);
     }
@@ -126,7 +133,10 @@ fn runs_past_the_width(rt: HostRuntime) -> Result<(), Fail> {
             row,
             column,
         };
-        assert_eq!(rt; is_licensed(&rt, rt.alloc(), &problem, cutoff, &why)?, expected);
+        assert_eq!(rt;
+            is_licensed(&rt, rt.alloc(), &problem, cutoff, &why)?,
+            expected
+        );
     }
     Ok(())
 }
@@ -154,7 +164,10 @@ fn runs_past_the_proof_numbers(rt: HostRuntime) -> Result<(), Fail> {
         let why = Why::Large {
             pivots: pivots(rt.alloc(), list)?,
         };
-        assert_eq!(rt; is_licensed(&rt, rt.alloc(), problem, cutoff, &why)?, expected);
+        assert_eq!(rt;
+            is_licensed(&rt, rt.alloc(), problem, cutoff, &why)?,
+            expected
+        );
     }
     let tired = Why::Tired {
         pivots: pivots(rt.alloc(), &DIAGONAL[..3])?,

@@ -99,10 +99,7 @@ fn cost_multiplier(tableau: &Tableau<'_, '_>, i: u32) -> Frac
 }
 
 /// The multipliers that the cost row gives.
-pub fn cost_multipliers(
-    alloc: Global,
-    tableau: &Tableau<'_, '_>,
-) -> Result<Vec<Frac>, AllocError>
+pub fn cost_multipliers(alloc: Global, tableau: &Tableau<'_, '_>) -> Result<Vec<Frac>, AllocError>
     requires { tableau.now.spent ≡ false }
     ensures { IfOk result (λ v. IsListOf (length tableau.now.problem.rows) (cost_multiplier_of tableau.now.problem (current tableau.now)) v.items) }
 {

@@ -28,9 +28,13 @@ pub enum Why {
         column: u32,
     },
     /// As many legal pivots as a relaxation may take.
-    Tired { pivots: Listed<(u32, u32)> },
+    Tired {
+        pivots: Listed<(u32, u32)>,
+    },
     /// Legal pivots to a dictionary whose proof or point needs numbers past their limit.
-    Large { pivots: Listed<(u32, u32)> },
+    Large {
+        pivots: Listed<(u32, u32)>,
+    },
 }
 
 /// Whether a licence holds, for every list and place that is handed in. `Better` is false: it is a licence of a node

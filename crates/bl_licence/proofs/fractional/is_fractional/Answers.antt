@@ -5,7 +5,6 @@ use Rattle.bl_simplex.specs.Dictionaries.{columns}
 use Rattle.bl_licence.proofs.Points.{Setting, divides_each, fractional_from_test, rows_to_test, cost_to_test, RowsPass, CostPasses}
 use Rattle.bl_licence.proofs.fractional.is_fractional.Goals as goal
 
-
 pub scaled_point-requires-clause-multiple : goal.scaled_point-requires-clause-multiple
 scaled_point-requires-clause-multiple c = divides_each c.args.problem.now c.args.distances.now c.in-Some.common (omega (arith, ap length c.lo.ensures.value)) c.in-Some.ensures.1
 
