@@ -7,29 +7,29 @@ use Rattle.bl_mps_terms.specs.declared.fault.MpsRule.{MpsRule}
 use Rattle.bl_mps_terms.specs.declared.fault.MpsRule.TheVariants as rules
 use Rattle.bl_mps_terms.specs.declared.words.RowKind.{RowKind}
 use Rattle.bl_mps_terms.specs.Words.{Bytes, row_kind}
+use Rattle.bl_mps_read.specs.declared.rows.BoundedRow.{BoundedRow}
 use Rattle.bl_mps_terms.specs.Lines.{is_free}
 use Rattle.bl_mps_read.specs.Fields.{pair_in}
 use Rattle.bl_mps_read.specs.Stops.{◌>>=◌}
 
 pub record RowList : Type 0 where
   pub names : List Bytes
-  pub kinds : List RowKind
   -- the places of the rows' numbers among those of a column: the objective's is 0
   pub slots : List (Option ℕ)
   pub objective : Option ℕ
-  -- the places of the rows that aren't N rows
-  pub bounded : List ℕ
+  -- the rows that aren't N rows
+  pub bounded : List BoundedRow
 
--- a kind and a slot for each name, and places of names
+-- a slot for each name, and places of names
 pub record AreRows (rows : RowList) : Type 0 where
-  pub kinds : length rows.kinds ≡ length rows.names
   pub slots : length rows.slots ≡ length rows.names
   pub objective : IfSome rows.objective (λ place. place < length rows.names)
-  pub bounded : All (λ place. place < length rows.names) rows.bounded
+  pub bounded : All (λ row. row.place < length rows.names) rows.bounded
+  pub kinds : All (λ row. is_free row.kind ≡ false) rows.bounded
   pub room : length rows.bounded ≤ MAX_TEXT_ROWS
 
 abbrev pub no_rows : RowList
-no_rows = record { names = []; kinds = []; slots = []; objective = None; bounded = [] }
+no_rows = record { names = []; slots = []; objective = None; bounded = [] }
 
 abbrev pub next_slot : RowList → RowKind → Result (Option ℕ) MpsRule
 next_slot rows kind =
@@ -39,10 +39,9 @@ next_slot rows kind =
 abbrev pub row_pushed : RowList → Bytes → RowKind → Option ℕ → RowList
 row_pushed rows name kind slot = record {
   names = rows.names ++ name ∷ [];
-  kinds = rows.kinds ++ kind ∷ [];
   slots = rows.slots ++ slot ∷ [];
   objective = if is_free kind then (if is_none rows.objective then Some (length rows.names) else rows.objective) else rows.objective;
-  bounded = if is_free kind then rows.bounded else rows.bounded ++ length rows.names ∷ [];
+  bounded = if is_free kind then rows.bounded else rows.bounded ++ record { place = length rows.names; kind = kind } ∷ [];
 }
 
 -- the name may be a new row's

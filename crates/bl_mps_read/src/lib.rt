@@ -5,13 +5,23 @@
 
 mod bounds;
 mod coefficients;
-mod error;
-mod reader;
 mod columns;
+mod error;
 mod fields;
 mod names;
 mod numbers;
+mod reader;
 mod rows;
 mod sections;
 mod sides;
 mod stop;
+
+pub use bounds::Bounds;
+pub use coefficients::Coefficients;
+pub use columns::Columns;
+pub use error::{MpsError, fault_at};
+pub use names::NameTable;
+pub use numbers::Numbers;
+pub use reader::{Reader, read_lines};
+pub use rows::{BoundedRow, Rows};
+pub use sections::Sections;

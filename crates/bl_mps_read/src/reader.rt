@@ -1,6 +1,5 @@
 //! The pass over the lines of a text.
-ghost use Rattle.std.specs.Prelude.{◌≡◌, OnOk, ◌≤◌, length};
-ghost use Rattle.bl_limits.specs.declared.TheConstants.{MAX_TEXT_BYTES};
+ghost use Rattle.std.specs.Prelude.{◌≡◌, IfOk, OnOk};
 ghost use Rattle.bl_text.specs.Fields.{fields_of};
 ghost use Rattle.bl_text.specs.Lines.{lines_of};
 ghost use Rattle.bl_mps_read.specs.Reader.{no_state, heading_sense, heading_read, sense_read, row_read, data_read, line_read, text_read, IsTidy};
@@ -153,7 +152,8 @@ fn read_line(alloc: Global, reader: &mut Reader, line: &[u8]) -> Result<(), Stop
 /// Takes up the lines of a text up to ENDATA.
 #[tactic(auto, unfolding(crate::specs::Reader::text_read))]
 pub fn read_lines(alloc: Global, text: &[u8]) -> Result<Reader, MpsError>
-    ensures { GivesRead reader_view result (text_read 0 no_state (lines_of text.now)) }
+    ensures tidy { IfOk result (λ reader. IsTidy (reader_view reader)) }
+    ensures read { GivesRead reader_view result (text_read 0 no_state (lines_of text.now)) }
 {
     let mut reader = no_reader(alloc);
     let mut number = 0u64;

@@ -14,17 +14,23 @@ use bl_limits::MAX_TEXT_ROWS;
 use bl_mps_terms::{MpsRule, RowKind, is_word, row_kind};
 use std::alloc::Global;
 
+/// A row that isn't an N row: its place among all rows, and its kind.
+#[derive(Clone, Copy, Debug)]
+pub struct BoundedRow {
+    pub place: usize,
+    pub kind: RowKind,
+}
+
 /// The rows in order, N rows among them. A row's slot is the place of its number among the numbers of a column: the
 /// objective's is 0, the others' follow in order, and a further N row has none.
 #[derive(Drop)]
 pub struct Rows {
     pub names: NameTable,
-    pub kinds: Vec<RowKind>,
     pub slots: Vec<Option<u32>>,
     /// The place of the first N row.
     pub objective: Option<usize>,
-    /// The places of the rows that aren't N rows.
-    pub bounded: Vec<usize>,
+    /// The rows that aren't N rows.
+    pub bounded: Vec<BoundedRow>,
 }
 
 pub fn no_rows(alloc: Global) -> Rows
@@ -33,7 +39,6 @@ pub fn no_rows(alloc: Global) -> Rows
 {
     Rows {
         names: NameTable::new(alloc),
-        kinds: Vec::new(alloc),
         slots: Vec::new(alloc),
         objective: None,
         bounded: Vec::new(alloc),
@@ -100,10 +105,9 @@ fn push_row(
 {
     let place = rows.names.len();
     rows.names.push(alloc, name)?;
-    rows.kinds.push(kind)?;
     rows.slots.push(slot)?;
     if !is_free(kind) {
-        rows.bounded.push(place)?;
+        rows.bounded.push(BoundedRow { place, kind })?;
     } else if rows.objective.is_none() {
         rows.objective = Some(place);
     }
