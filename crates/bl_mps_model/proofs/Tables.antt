@@ -1,12 +1,17 @@
 -- A list that is made place by place.
-use Rattle.std.proofs.Common.{◌≡◌, ℕ, ◌+◌, ◌<◌, ◌≤◌, List, [], ◌∷◌, ◌++◌, length, get_or, map, filter, take, cond, Bool, ℤ, refl, sym, ap, ◌∙◌, arith, ◌⊎◌, inl, inr}
+use Rattle.std.proofs.Common.{◌≡◌, ℕ, ◌+◌, ◌<◌, ◌≤◌, List, [], ◌∷◌, ◌++◌, length, get_or, map, filter, drop, cond, Bool, false, Some, None, ℤ, refl, sym, ap, ◌∙◌, arith, ◌⊎◌, inl, inr}
 use Rattle.std.specs.List.{All, range_with_len}
 use Rattle.std.specs.List.Sorted.{IsStrictlyIncreasing}
 use Rattle.std.proofs.lemmas.Bool.{cases_lt}
-use Rattle.std.proofs.lemmas.List.{get_or_append_left, get_or_push, length_push, length-map, get_or-map, map_push}
+use Rattle.std.proofs.lemmas.List.{get_or_append_left, get_or_push, length_push, length-map, get_or-map, map_push, drop_more, drop_all}
 use Rattle.std.proofs.lemmas.List.Elements.{All-push}
 use Rattle.std.proofs.lemmas.List.FromFn.{map-range_with_len_more, filter_of_map_range_with_len_more}
-use Rattle.bl_mps_read.specs.Columns.{IsSmall}
+use Rattle.std.specs.Option.{option_map}
+use Rattle.bl_raw.specs.Raw.{IsSmall}
+use Rattle.bl_mps_terms.specs.declared.fault.MpsRule.{MpsRule}
+use Rattle.bl_mps_terms.specs.Faults.{or_else, in_column}
+use Rattle.bl_mps_read.specs.declared.bounds.Bounds.{Bounds}
+use Rattle.bl_mps_model.specs.Whole.{bounds_fault, bounds_faults}
 use Rattle.bl_mps_model.specs.Model.{AreEntries}
 
 pub table_more : {X : Type 0} (f : ℕ → X) (n : ℕ) (items more : List X) (x : X) → items ≡ map f (range_with_len 0 n) → x ≡ f n → more ≡ items ++ x ∷ []
@@ -47,3 +52,25 @@ AreEntries_push n entries z h small =
 
 pub AreEntries_pushed : (n : ℕ) (old new : List (ℕ × ℤ)) (z v : ℤ) → new ≡ old ++ (n, z) ∷ [] → z ≡ v → AreEntries n old → IsSmall v → AreEntries (n + 1) new
 AreEntries_pushed n old new z v push same h small = rw (push, same) (AreEntries_push n old v h small)
+
+-- ---- the faults of columns
+
+-- the faults from a column on are that column's, and else those behind it
+pub bounds_faults-drop : (default : ℤ) (k : ℕ) (bounds : List Bounds) (d : Bounds) → k < length bounds
+    → bounds_faults default k (drop k bounds) ≡ or_else (option_map (in_column k) (bounds_fault default (get_or bounds k d))) (bounds_faults default (k + 1) (drop (k + 1) bounds))
+unfolding bounds_faults
+bounds_faults-drop default k bounds d lt = rw (drop_more bounds k d lt) refl
+
+-- the first column with a fault, where none before it has one
+pub faults_found : (default : ℤ) (k : ℕ) (bounds : List Bounds) (d : Bounds) (rule : MpsRule) → k < length bounds → Some rule ≡ bounds_fault default (get_or bounds k d)
+    → bounds_faults default 0 bounds ≡ bounds_faults default k (drop k bounds) → Some (in_column k rule) ≡ bounds_faults default 0 bounds
+faults_found default k bounds d rule lt fault so_far = sym (so_far ∙ bounds_faults-drop default k bounds d lt ∙ rw (← fault) refl)
+
+pub faults_more : (default : ℤ) (k : ℕ) (bounds : List Bounds) (d : Bounds) → k < length bounds → None ≡ bounds_fault default (get_or bounds k d)
+    → bounds_faults default 0 bounds ≡ bounds_faults default k (drop k bounds) → bounds_faults default 0 bounds ≡ bounds_faults default (k + 1) (drop (k + 1) bounds)
+faults_more default k bounds d lt fault so_far = so_far ∙ bounds_faults-drop default k bounds d lt ∙ rw (← fault) refl
+
+pub faults_none : (default : ℤ) (k : ℕ) (bounds : List Bounds) → length bounds ≤ k
+    → bounds_faults default 0 bounds ≡ bounds_faults default k (drop k bounds) → None ≡ bounds_faults default 0 bounds
+unfolding bounds_faults
+faults_none default k bounds past so_far = sym (so_far ∙ rw (drop_all k bounds past) refl)

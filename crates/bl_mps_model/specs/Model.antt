@@ -16,7 +16,8 @@ use Rattle.bl_mps_terms.specs.Meaning.{row_with}
 use Rattle.bl_mps_read.specs.declared.rows.BoundedRow.{BoundedRow}
 use Rattle.bl_mps_read.specs.declared.bounds.Bounds.{Bounds}
 use Rattle.bl_mps_read.specs.Bounds.{no_bounds}
-use Rattle.bl_mps_read.specs.Columns.{ColumnList, IsSmall}
+use Rattle.bl_mps_read.specs.Columns.{ColumnList}
+use Rattle.bl_raw.specs.Raw.{IsSmall}
 use Rattle.bl_mps_read.specs.Rows.{RowList}
 use Rattle.bl_mps_read.specs.Reader.{State, no_state, text_read}
 use Rattle.bl_mps_model.specs.Whole.{upper_in, bounds_faults}

@@ -2,7 +2,7 @@
 ghost use Rattle.std.specs.Prelude.{◌≡◌, ◌+◌, ◌≤◌, ◌++◌, ◌∷◌, [], All, IfOk, OnOk, not, if◌then◌else◌};
 ghost use Rattle.bl_limits.specs.declared.TheConstants.{MAX_TEXT_ROWS};
 ghost use Rattle.bl_mps_terms.specs.Rules.{is_zero};
-ghost use Rattle.bl_mps_read.specs.Columns.{IsSmall};
+ghost use Rattle.bl_raw.specs.Raw.{IsSmall};
 ghost use Rattle.bl_mps_model.specs.Model.{number_at, entry_at, raw_entries, AreEntries};
 
 use std::alloc::{AllocError, Global};

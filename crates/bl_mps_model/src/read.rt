@@ -1,7 +1,7 @@
 //! A whole text.
 ghost use Rattle.std.specs.Prelude.{◌≡◌, ◌≤◌, ◌≤ℤ◌, pos, unsigned_abs, IfOk};
 ghost use Rattle.bl_limits.specs.declared.TheConstants.{MAX_NUMBER};
-ghost use Rattle.bl_raw.specs.Raw.{KeepsLimits};
+ghost use Rattle.bl_raw.specs.Raw.{IsRawModel};
 ghost use Rattle.bl_mps_read.specs.Errors.{GivesRead};
 ghost use Rattle.bl_mps_model.specs.Model.{mps_read};
 
@@ -17,7 +17,7 @@ use std::alloc::Global;
 pub fn read_mps(alloc: Global, bytes: &[u8], default_upper: i64) -> Result<RawMps, MpsError>
     requires { (pos 0 ≤ℤ default_upper) × (unsigned_abs default_upper ≤ MAX_NUMBER) }
     ensures exact { GivesRead (λ mps. mps) result (mps_read default_upper bytes.now) }
-    ensures limits { IfOk result KeepsLimits }
+    ensures limits { IfOk result IsRawModel }
 {
     if bytes.len() > MAX_TEXT_BYTES {
         return Err(fault_at(0, MpsRule::TooLong));

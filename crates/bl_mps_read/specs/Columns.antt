@@ -1,8 +1,9 @@
 -- The columns of a text, one line after the other.
-use Rattle.std.specs.Prelude.{◌≡◌, ◌≤◌, All, unsigned_abs, ℕ, ◌+◌, ◌-◌, ◌==◌, ◌++◌, Bool, true, false, List, [], ◌∷◌, Option, Some, None, Result, Ok, Err, ℤ, pos, length, position, replicate, nat_lt, slice_index_or, slice_index, slice_set, codes, if◌then◌else◌}
+use Rattle.std.specs.Prelude.{◌≡◌, ◌≤◌, All, ℕ, ◌+◌, ◌-◌, ◌==◌, ◌++◌, Bool, true, false, List, [], ◌∷◌, Option, Some, None, Result, Ok, Err, ℤ, pos, length, position, replicate, nat_lt, slice_index_or, slice_index, slice_set, codes, if◌then◌else◌}
 use Rattle.std.specs.Option.{ok_or}
 use Rattle.std.specs.Str.{bytes_eq}
 use Rattle.bl_limits.specs.declared.TheConstants.{MAX_COLUMNS, MAX_NUMBER}
+use Rattle.bl_raw.specs.Raw.{IsSmall}
 use Rattle.bl_mps_terms.specs.declared.fault.MpsRule.{MpsRule}
 use Rattle.bl_mps_terms.specs.declared.fault.MpsRule.TheVariants as rules
 use Rattle.bl_mps_terms.specs.Words.{Bytes}
@@ -20,9 +21,6 @@ pub record ColumnList : Type 0 where
   pub bounds : List Bounds
   pub marks : List ℕ
   pub inside : Bool
-
-abbrev pub IsSmall : ℤ → Type 0
-IsSmall z = unsigned_abs z ≤ MAX_NUMBER
 
 -- bounds for each name, and small numbers
 pub record AreColumns (columns : ColumnList) : Type 0 where

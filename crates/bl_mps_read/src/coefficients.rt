@@ -1,6 +1,6 @@
 //! The numbers of a column.
 ghost use Rattle.std.specs.Prelude.{◌≡◌, All, IfOk, pos, replicate, slice_set};
-ghost use Rattle.bl_mps_read.specs.Columns.{IsSmall};
+ghost use Rattle.bl_raw.specs.Raw.{IsSmall};
 
 use std::alloc::{AllocError, Global};
 use std::marker::Model;

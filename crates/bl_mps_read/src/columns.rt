@@ -3,7 +3,8 @@ ghost use Rattle.std.specs.Prelude.{◌≡◌, ◌<◌, All, OnOk, length, vec_l
 ghost use Rattle.bl_text.specs.Fields.{fields_of};
 ghost use Rattle.bl_mps_terms.specs.Lines.{is_marker};
 ghost use Rattle.bl_mps_read.specs.Bounds.{no_bounds};
-ghost use Rattle.bl_mps_read.specs.Columns.{IsSmall, AreColumns, no_columns, begun, number_set, marked, coefficient_given, column_added, marker_read};
+ghost use Rattle.bl_raw.specs.Raw.{IsSmall};
+ghost use Rattle.bl_mps_read.specs.Columns.{AreColumns, no_columns, begun, number_set, marked, coefficient_given, column_added, marker_read};
 ghost use Rattle.bl_mps_read.specs.ColumnViews.{columns_view};
 ghost use Rattle.bl_mps_read.specs.Rows.{AreRows};
 ghost use Rattle.bl_mps_read.specs.RowViews.{rows_view};
