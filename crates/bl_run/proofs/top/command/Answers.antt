@@ -1,7 +1,11 @@
 use Rattle.std.proofs.lemmas.Result.{err_from_is_err_and}
 use Rattle.bl_run.specs.Steps.{asked_by}
 use Rattle.bl_run.proofs.StepLemmas.{no_memory, no_command, command_ends}
+use Rattle.bl_run.proofs.WordsLemmas.{default_fits}
 use Rattle.bl_run.proofs.top.command.Goals as goal
+
+pub solve-requires : goal.solve-requires
+solve-requires g c = default_fits _ _ _ _ _ (rw c.in-Some.is at c.in_ok-asked.ensures.found)
 
 pub returns-in_err-asked : goal.returns-in_err-asked
 returns-in_err-asked g c =
