@@ -16,6 +16,6 @@ mod why;
 pub use closing::{closes, cost_closes, first_closing_row};
 pub use common::{common_denominator, whole_multiples};
 pub use fractional::is_fractional;
-pub use replay::{may_pivot, pivot_limit};
+pub use replay::{closes_past_limit, is_point_past_limit, may_pivot, pivot_limit};
 pub use vertex::{basic_values, cost_multipliers, is_feasible, row_multipliers};
 pub use why::{Why, why_holds};

@@ -157,7 +157,7 @@ pub(crate) fn passes_pivots(
 }
 
 /// Whether the numbers of the proof that the dictionary gives pass their limit.
-fn closes_past_limit(
+pub fn closes_past_limit(
     alloc: Global,
     tableau: &Tableau<'_, '_>,
     cutoff: Option<i64>,
@@ -179,7 +179,7 @@ fn closes_past_limit(
 }
 
 /// Whether the dictionary is an optimum that doesn't close the box, and its point's numbers pass their limit.
-fn is_point_past_limit(
+pub fn is_point_past_limit(
     alloc: Global,
     tableau: &Tableau<'_, '_>,
     cutoff: Option<i64>,
