@@ -58,11 +58,18 @@ or_three false a b = or_right a b
 bounds_for-push : (marked : Bool) (lines : List BoundLine) (bound : BoundLine) (number : Option ℤ) → number_given bound ≡ number
     → bounds_for marked (lines ++ bound ∷ []) ≡ with_bound (bounds_for marked lines) bound.kind number
 bounds_for-push marked lines bound number e =
-    rw (list_any-append (λ (b : BoundLine). makes_integer b.kind) lines (bound ∷ []), list_any-append (λ (b : BoundLine). sets_lower b.kind) lines (bound ∷ []), some_push lines bound,
-    map_push (λ (b : BoundLine). lower_set b.kind (number_given b)) lines bound, map_push (λ (b : BoundLine). upper_set b.kind (number_given b)) lines bound,
-    last_set-push (Some (pos 0)) (map (λ (b : BoundLine). lower_set b.kind (number_given b)) lines) (lower_set bound.kind (number_given bound)),
-    last_set-push None (map (λ (b : BoundLine). upper_set b.kind (number_given b)) lines) (upper_set bound.kind (number_given bound)),
-    or_three marked (list_any (λ (b : BoundLine). makes_integer b.kind) lines) (makes_integer bound.kind), or_right (list_any (λ (b : BoundLine). sets_lower b.kind) lines) (sets_lower bound.kind), e) refl
+    rw (
+      list_any-append (λ (b : BoundLine). makes_integer b.kind) lines (bound ∷ []),
+      list_any-append (λ (b : BoundLine). sets_lower b.kind) lines (bound ∷ []),
+      some_push lines bound,
+      map_push (λ (b : BoundLine). lower_set b.kind (number_given b)) lines bound,
+      map_push (λ (b : BoundLine). upper_set b.kind (number_given b)) lines bound,
+      last_set-push (Some (pos 0)) (map (λ (b : BoundLine). lower_set b.kind (number_given b)) lines) (lower_set bound.kind (number_given bound)),
+      last_set-push None (map (λ (b : BoundLine). upper_set b.kind (number_given b)) lines) (upper_set bound.kind (number_given bound)),
+      or_three marked (list_any (λ (b : BoundLine). makes_integer b.kind) lines) (makes_integer bound.kind),
+      or_right (list_any (λ (b : BoundLine). sets_lower b.kind) lines) (sets_lower bound.kind),
+      e,
+    ) refl
 
 -- ---- the lines on a column
 

@@ -123,8 +123,7 @@ module _ (lines columns : List (List Bytes)) (rows : RowList) (h : RowsHold line
   marks_at pairs pair list g row at k lt (inr other) =
       let there : get_or (set list.marks row (length begun_list.names)) k 0 ≡ get_or list.marks k 0 = get_or-set_other list.marks row k (length begun_list.names) 0 other in
       let apart : bytes_eq (get_or rows.names k []) pair.0 ≡ false =
-      differ_false (get_or rows.names k []) pair.0 (λ e. distinct_places rows.names h.distinct k row lt at.within other (e ∙ sym at.is)) in
-      (
+      differ_false (get_or rows.names k []) pair.0 (λ e. distinct_places rows.names h.distinct k row lt at.within other (e ∙ sym at.is)) in (
         omega (arith, there, g.most k lt),
         ap (λ (m : ℕ). eqb m (length begun_list.names)) there ∙ g.marks k lt ∙ sym (named_push pairs pair (get_or rows.names k []) ∙ rw apart (or_nothing (is_named (names_in pairs) (get_or rows.names k [])))),
       )

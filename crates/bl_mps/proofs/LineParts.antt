@@ -72,8 +72,16 @@ senses_from-push present (x ∷ lines) line =
 
 pub parts-push : (lines : List Bytes) (line : Bytes) → parts_of (lines ++ line ∷ []) ≡ pushed (parts_of lines) line
 parts-push lines line =
-    rw (section_after-push None lines line, sections_of-push lines line, senses_from-push None lines line, data_from-push Rows None lines line, data_from-push Columns None lines line,
-    data_from-push RightSides None lines line, data_from-push Ranges None lines line, data_from-push Bounds None lines line) refl
+    rw (
+      section_after-push None lines line,
+      sections_of-push lines line,
+      senses_from-push None lines line,
+      data_from-push Rows None lines line,
+      data_from-push Columns None lines line,
+      data_from-push RightSides None lines line,
+      data_from-push Ranges None lines line,
+      data_from-push Bounds None lines line,
+    ) refl
 
 -- a line that says nothing
 pub pushed_skipped : (parts : LineParts) (line : Bytes) → is_skipped line ≡ true → pushed parts line ≡ parts
