@@ -40,7 +40,7 @@ struct Case {
 
 const NO_FOLLOWER: &str = "N 0\nM 0\nOS 1\n";
 
-const CASES: [Case; 14] = [
+const CASES: [Case; 17] = [
     Case {
         name: "Moore and Bard",
         mps: MOORE_BARD,
@@ -121,13 +121,38 @@ const CASES: [Case; 14] = [
         err: "",
     },
     Case {
-        name: "a bound line of another kind",
+        name: "a column without an upper bound",
         mps: "NAME\nROWS\n N COST\nCOLUMNS\n M 'MARKER' 'INTORG'\n X COST 1\n M 'MARKER' 'INTEND'\nRHS\n\
               BOUNDS\n LO BND X 1\nENDATA\n",
         aux: NO_FOLLOWER,
         status: 3,
         report: Report::Is(""),
-        err: "mibs: m.mps: NotYet\n",
+        err: "mibs: m.mps: column 0: Unbounded\n",
+    },
+    Case {
+        name: "an unknown section",
+        mps: "NAME\nBOGUS\nENDATA\n",
+        aux: NO_FOLLOWER,
+        status: 3,
+        report: Report::Is(""),
+        err: "mibs: m.mps: line 2: BadSection\n",
+    },
+    Case {
+        name: "no cost row",
+        mps: "ROWS\nCOLUMNS\nENDATA\n",
+        aux: NO_FOLLOWER,
+        status: 3,
+        report: Report::Is(""),
+        err: "mibs: m.mps: NoObjective\n",
+    },
+    Case {
+        name: "a leader who maximises",
+        mps: "NAME\nOBJSENSE\n MAX\nROWS\n N COST\n L C\nCOLUMNS\n M 'MARKER' 'INTORG'\n X COST 2 C -1\n Y COST -1 C 1\n M 'MARKER' 'INTEND'\n\
+              BOUNDS\n UP X 3\n UP Y 5\nENDATA\n",
+        aux: "N 1\nM 1\nLC 1\nLR 0\nLO 1\nOS -1\n",
+        status: 0,
+        report: Report::Is("optimal\nvalue 3\nfollower 3\ncolumn X 3\ncolumn Y 3\n"),
+        err: "",
     },
     Case {
         name: "an auxiliary text in another order",
