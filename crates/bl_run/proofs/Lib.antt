@@ -2,3 +2,4 @@ pub mod PromiseLemmas
 pub mod SolveLemmas
 pub mod StatusLemmas
 pub mod StepLemmas
+pub mod WordsLemmas

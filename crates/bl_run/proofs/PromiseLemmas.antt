@@ -1,6 +1,6 @@
 -- That a cause excludes the others, and from how a command ended to its promise.
-use Rattle.std.proofs.Common.{◌≡◌, ℕ, ◌<◌, ◌≤◌, List, arith, refl, sym, ap, subst, ◌∙◌, inl, inr, ⊎_elim, []}
-use Rattle.std.specs.Prelude.{pos, Option, None, Some}
+use Rattle.std.proofs.Common.{◌≡◌, ℕ, ◌<◌, ◌≤◌, List, arith, refl, sym, ap, subst, ◌∙◌, ◌⊎◌, inl, inr, ⊎_elim, []}
+use Rattle.std.specs.Prelude.{ℤ, pos, Option, None, Some}
 use Rattle.bl_outer.specs.Files.{Files, IsAbsent, IfTold}
 use Rattle.bl_outer.specs.Sink.{SinkState}
 use Rattle.bl_limits.specs.declared.TheConstants.{MAX_WALK_POINTS}
@@ -8,6 +8,8 @@ use Rattle.bl_raw.specs.declared.raw.RawMps.{RawMps}
 use Rattle.bl_raw.specs.declared.raw.RawAux.{RawAux}
 use Rattle.bl_model.specs.Build.{program_of}
 use Rattle.bl_mps.proofs.OneModel.{says_one}
+use Rattle.bl_words.specs.declared.commands.Command.TheVariants.{Solve}
+use Rattle.bl_run.proofs.WordsLemmas.{says_once}
 use Rattle.bl_aux.proofs.Meanings.{tells_one}
 use Rattle.bl_aux.specs.declared.fault.AuxFault.{AuxFault}
 use Rattle.bl_terms.specs.Programs.{root}
@@ -25,17 +27,16 @@ some_is : (x y : List ℕ) → Some x ≡ Some y → x ≡ y
 some_is x y e = cc
 
 -- the words ask for one thing
-same_words : (a b : SolveWords) → a.mps ≡ b.mps → a.aux ≡ b.aux → a ≡ b
-same_words a b mps aux =
-    ap (λ (name : List ℕ). record { mps = name; aux = a.aux }) mps
-    ∙ ap (λ (name : List ℕ). record { mps = b.mps; aux = name }) aux
+same_words : (a b : SolveWords) → a.mps ≡ b.mps → a.aux ≡ b.aux → a.default_upper ≡ b.default_upper → a ≡ b
+same_words a b mps aux upper =
+    ap (λ (name : List ℕ). record { mps = name; aux = a.aux; default_upper = a.default_upper }) mps
+    ∙ ap (λ (name : List ℕ). record { mps = b.mps; aux = name; default_upper = a.default_upper }) aux
+    ∙ ap (λ (z : ℤ). record { mps = b.mps; aux = b.aux; default_upper = z }) upper
 
 one_command : (words : List (List ℕ)) (a b : SolveWords) → AreSolveWords words a → AreSolveWords words b → a ≡ b
 one_command words a b these those =
-    let same = sym these.three ∙ those.three in
-    let mps : a.mps ≡ b.mps = cc in
-    let aux : a.aux ≡ b.aux = cc in
-    same_words a b mps aux
+    let same = says_once Solve words a.mps b.mps a.aux b.aux a.default_upper b.default_upper these those in
+    same_words a b same.0 same.1 same.2
 
 -- a text says one model, and none where it is refused
 one_model : (text : List ℕ) (a b : RawMps) → IsMpsText text a → IsMpsText text b → a ≡ b
@@ -267,10 +268,10 @@ due : (words : List (List ℕ)) (files : Option Files) (run : Run) (ending : End
 due words None run ending h = tt
 due words (Some files) run ending h = due_at words files run ending h
 
--- words that ask for nothing end so
+-- words that ask for nothing end so, or there is no memory
 refused : (words : List (List ℕ)) (files : Option Files) (run : Run) (ending : Ending)
-    → HasCause words files run ending → AreRefused words → ending ≡ BadWords
-refused words files run BadWords h none = refl
+    → HasCause words files run ending → AreRefused words → (ending ≡ BadWords) ⊎ (ending ≡ OutOfMemory)
+refused words files run BadWords h none = inl refl
 refused words files run Done h none = absurd (none run.words h.0)
 refused words files run NoPoint h none = absurd (none run.words h.0)
 refused words files run (BadText file place rule) h none = absurd (none run.words h.0)
@@ -278,7 +279,7 @@ refused words files run (NodesSpent budget made) h none = absurd (none run.words
 refused words files run (FollowerSpent budget made link) h none = absurd (none run.words h.0)
 refused words files run (ReadFault file) h none = absurd (none run.words h.0)
 refused words files run (WriteFault target) h none = absurd (none run.words h.0)
-refused words files run OutOfMemory h none = absurd (none run.words h.0)
+refused words files run OutOfMemory h none = inr refl
 refused words files run (NotAccepted file line rule) h none = absurd (none run.words h.0)
 refused words files run (Missing file) h none = absurd (none run.words h.0)
 refused words files run (ManyPoints file) h none = absurd (none run.words h.0)

@@ -339,8 +339,22 @@ module _ (asked : SolveWords) (old middle new : ShelfState) (mps : RawMps) (aux 
 pub no_command : (words : List (List ℕ)) (outside : Outside) → AreRefused words
     → EndsCommand words outside outside BadWords
 no_command words outside none = record {
-  run = run_of (record { mps = []; aux = [] });
+  run = run_of (record { mps = []; aux = []; default_upper = pos 0 });
   cause = none;
+  leaves = record {
+    printed = refl;
+    read_faults = record { read_faults = refl; faulted = refl };
+    misses = refl;
+    write_faults = (refl, refl);
+    files = refl;
+  };
+}
+
+-- there was no memory to read the words
+pub no_memory : (words : List (List ℕ)) (outside : Outside) → EndsCommand words outside outside OutOfMemory
+no_memory words outside = record {
+  run = run_of (record { mps = []; aux = []; default_upper = pos 0 });
+  cause = tt;
   leaves = record {
     printed = refl;
     read_faults = record { read_faults = refl; faulted = refl };
@@ -361,7 +375,7 @@ caused words files run (NodesSpent budget made) asked h = (asked, h)
 caused words files run (FollowerSpent budget made link) asked h = (asked, h)
 caused words files run (ReadFault file) asked h = (asked, h)
 caused words files run (WriteFault target) asked h = (asked, h)
-caused words files run OutOfMemory asked h = (asked, h)
+caused words files run OutOfMemory asked h = tt
 caused words files run (NotAccepted file line rule) asked h = (asked, h)
 caused words files run (Missing file) asked h = (asked, h)
 caused words files run (ManyPoints file) asked h = (asked, h)

@@ -16,9 +16,10 @@ pub record Outside : Type 0 where
   pub files : ShelfState
   pub out : SinkState
 
--- why the command ended so
+-- why the command ended so. Want of memory comes freely, also where the words are read.
 abbrev pub HasCause : List (List ℕ) → Option Files → Run → Ending → Type 0
 HasCause words files run BadWords = AreRefused words
+HasCause words files run OutOfMemory = ⊤
 HasCause words files run ending = AreSolveWords words run.words × IsCause files run ending
 
 -- a fault of reading or want of memory, which may come before what would come else
@@ -86,14 +87,14 @@ Tells (Some line) old new =
     ⊎ (Told (AddsPrefix line) old.bytes new.bytes × Grew old.faults new.faults)
 
 -- The promise of a top call. There is one run, of which all the rest is said, and one ending, whose status is answered
--- and whose cause stands. Words that ask for nothing end so; where the files are told, a cause that stands in them gives
+-- and whose cause stands. Words that ask for nothing end so, unless there is no memory; where the files are told, a cause that stands in them gives
 -- its ending. The rest is what is left on the files and on the two outputs.
 pub record Promise (words : List (List ℕ)) (old new : Outside) (old_err new_err : SinkState) (status : ℕ) : Type 0 where
   pub run : Run
   pub ending : Ending
   pub status_is : status ≡ status_of ending
   pub cause : HasCause words old.files.contents run ending
-  pub refused : AreRefused words → ending ≡ BadWords
+  pub refused : AreRefused words → (ending ≡ BadWords) ⊎ (ending ≡ OutOfMemory)
   pub due : IfTold old.files.contents (IsDue words ending)
   pub leaves : Leaves run ending old new
   pub told : Tells (line_of ending) old_err new_err

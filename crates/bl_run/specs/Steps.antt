@@ -16,6 +16,7 @@ use Rattle.bl_run.specs.declared.status.Answer.{Answer}
 use Rattle.bl_run.specs.declared.status.Answer.TheVariants as answer
 use Rattle.bl_run.specs.declared.status.Failure.{Failure}
 use Rattle.bl_run.specs.declared.status.Failure.TheVariants as failure
+use Rattle.bl_words.specs.declared.words.SolveWords as words
 use Rattle.bl_run.specs.Words.{SolveWords}
 use Rattle.bl_run.specs.Texts.{IsNotYet}
 use Rattle.bl_run.specs.declared.fault.TextFault.{TextFault}
@@ -117,6 +118,10 @@ FailsToSolve name mps aux (failure.ReadFault file) = ⊥
 FailsToSolve name mps aux failure.WriteFault = ⊥
 FailsToSolve name mps aux failure.Memory = ⊤
 FailsToSolve name mps aux (failure.Missing file) = ⊥
+
+-- what the words ask for
+abbrev pub asked_by : words.SolveWords → SolveWords
+asked_by asked = record { mps = asked.mps.now; aux = asked.aux.now; default_upper = asked.default_upper }
 
 -- `solve` was asked this, and ended so
 pub record Ends (asked : SolveWords) (old new : Outside) (ending : Ending) : Type 0 where

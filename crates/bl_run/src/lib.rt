@@ -8,7 +8,6 @@ mod status;
 #[cfg(test)]
 mod tests;
 mod top;
-mod words;
 
 pub use status::Status;
 pub use top::{out_of_memory, run, run_alone};

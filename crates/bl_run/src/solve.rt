@@ -10,12 +10,11 @@ ghost use Rattle.bl_terms.specs.Trees.{point_count};
 ghost use Rattle.bl_raw.specs.Raw.{IsRawModel, FitsModel};
 ghost use Rattle.bl_model.specs.Build.{program_of};
 ghost use Rattle.bl_run.specs.Texts.{IsMpsText, IsMpsFault, IsAuxText, IsAuxFault};
-ghost use Rattle.bl_run.specs.Steps.{result_ending, OnlyCounts, HasText, FailsToRead, NoFault, IsTooLong, IsReport, FailsToSolve, Ends};
+ghost use Rattle.bl_run.specs.Steps.{result_ending, OnlyCounts, HasText, FailsToRead, NoFault, IsTooLong, IsReport, FailsToSolve, Ends, asked_by};
 
 use crate::fault::{TextFault, aux_fault};
 use crate::report::{INFEASIBLE, optimal_report};
 use crate::status::{Answer, Failure};
-use crate::words::SolveWords;
 use bl_aux::{AuxError, AuxFault, AuxRule};
 use bl_limits::{MAX_TEXT_BYTES, MAX_WALK_POINTS};
 use bl_model::{Bilevel, build};
@@ -23,6 +22,7 @@ use bl_mps::read_first;
 use bl_outer::{Got, ReadFail, Shelf, Sink, read_text};
 use bl_plain::{Optimum, plain_best};
 use bl_raw::{RawAux, RawColumn, RawMps};
+use bl_words::SolveWords;
 use std::alloc::{AllocError, Global};
 
 const AUX_TOO_LONG: AuxFault = AuxFault {
@@ -44,7 +44,7 @@ pub(crate) fn solve<'a, F: Shelf, O: Sink>(
     files: &mut F,
     out: &mut O,
 ) -> Result<Answer, Failure<'a>>
-    ensures { Ends (record { mps = words.entry.mps.now; aux = words.entry.aux.now })
+    ensures { Ends (asked_by words.entry)
         (record { files = F.state files.old; out = O.state out.old })
         (record { files = F.state files.new; out = O.state out.new })
         (result_ending result) }

@@ -220,8 +220,26 @@ fn solves_the_worked_examples(rt: HostRuntime) -> Result<(), Fail> {
 }
 
 #[test]
+fn takes_a_default_upper_bound(rt: HostRuntime) -> Result<(), Fail> {
+    let taken: [&[&str]; 2] = [
+        &["solve", "--default-upper", "9", "m.mps", "m.aux"],
+        &["solve", "m.mps", "--default-upper=0", "m.aux"],
+    ];
+    for texts in taken {
+        let words = words(rt.alloc(), texts)?;
+        let mut files = shelf(rt.alloc(), MOORE_BARD, MOORE_BARD_AUX, &[])?;
+        let mut out = MemSink::new(rt.alloc(), &[])?;
+        let mut err = MemSink::new(rt.alloc(), &[])?;
+        let status = status_alone(rt.alloc(), &words, &mut files, &mut out, &mut err);
+        assert_eq!(rt; status, Status(0), "{texts:?}");
+        assert_eq!(rt; err.bytes(), b"".as_slice());
+    }
+    Ok(())
+}
+
+#[test]
 fn refuses_other_words(rt: HostRuntime) -> Result<(), Fail> {
-    let refused: [&[&str]; 8] = [
+    let refused: [&[&str]; 9] = [
         &[],
         &["solve"],
         &["solve", "m.mps"],
@@ -229,6 +247,7 @@ fn refuses_other_words(rt: HostRuntime) -> Result<(), Fail> {
         &["solve", "", "m.aux"],
         &["solve", "m.mps", "-"],
         &["solve", "m.mps", "m.aux", "--help"],
+        &["solve", "m.mps", "m.aux", "--default-upper", "04"],
         &["show", "m.mps", "m.aux"],
     ];
     for texts in refused {

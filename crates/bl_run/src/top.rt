@@ -7,8 +7,8 @@ ghost use Rattle.bl_run.specs.Steps.{result_ending, EndsCommand};
 
 use crate::solve::solve;
 use crate::status::{Answer, Failure, Status};
-use crate::words::solve_words;
 use bl_outer::{Gate, Shelf, Sink};
+use bl_words::solve_words;
 use std::alloc::Global;
 use std::sync::Wait;
 use std::thread::Threads;
@@ -20,17 +20,17 @@ use std::thread::Threads;
 /// |---|---|
 /// | 0 | an optimal point is printed |
 /// | 1 | it is printed that no point is bilevel feasible |
-/// | 2 | the words aren't `solve` and the names of two different files |
-/// | 3 | a text isn't in the form that is read, or both are and the box has more than 1,000,000 points |
+/// | 2 | the words aren't those of a command |
+/// | 3 | a text breaks a rule, or none does and the box has more than `MAX_WALK_POINTS` points |
 /// | 6 | the shelf failed in reading |
 /// | 7 | `out` failed; some first bytes of the report may stand there |
 /// | 8 | no memory was left at some step before the report |
 /// | 10 | the file that is to be read next is missing |
 ///
-/// A text has at most 16,777,216 bytes. The MPS file is read and judged before the auxiliary file is
-/// looked for. Where a fault of reading or want of memory comes first, it
-/// stands in place of a later cause. A failure of `err` changes no status. What the files and outputs
-/// hold is known where they tell it. The gate and the threads have no effect on any answer.
+/// The MPS file is read and judged before the auxiliary file is looked for. Where a fault of reading or
+/// want of memory comes first, it stands in place of a later cause. A failure of `err` changes no status.
+/// What the files and outputs hold is known where they tell it. The gate and the threads have no effect
+/// on any answer.
 pub fn run<R: Threads + Wait + Sync, F: Shelf, O: Sink, E: Sink, G: Gate + Sync>(
     _rt: &R,
     alloc: Global,
@@ -82,10 +82,10 @@ fn command<'a, F: Shelf, O: Sink>(
         (record { files = F.state files.new; out = O.state out.new })
         (result_ending result) }
 {
-    match solve_words(words) {
-        Some(asked) => solve(alloc, asked, files, out),
-        None => Err(Failure::Words),
-    }
+    let Some(asked) = solve_words(alloc, words)? else {
+        return Err(Failure::Words);
+    };
+    solve(alloc, asked, files, out)
 }
 
 /// The answer where not even the words could be read for want of memory.

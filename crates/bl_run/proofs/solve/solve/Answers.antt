@@ -1,11 +1,12 @@
 use Rattle.std.proofs.lemmas.Result.{err_from_is_err_and}
 use Rattle.bl_run.specs.Words.{SolveWords}
+use Rattle.bl_run.specs.Steps.{asked_by}
 use Rattle.bl_run.proofs.StepLemmas.{mps_stops, aux_stops, solving_stops, printing_stops, answered}
 use Rattle.bl_run.proofs.solve.solve.Goals as goal
 
 pub returns-in_err-mps : goal.returns-in_err-mps
 returns-in_err-mps g c =
-    let asked : SolveWords = record { mps = c.args.words.mps.now; aux = c.args.words.aux.now } in
+    let asked : SolveWords = asked_by c.args.words in
     let p = err_from_is_err_and c.from_residual.result c.from_residual.ensures.1 in
     rw (p.1, p.2)
     (mps_stops asked (g.F.Shelf.state c.args.files.now) (g.F.Shelf.state c.read_mps.new.files)
@@ -13,7 +14,7 @@ returns-in_err-mps g c =
 
 pub returns-in_err-aux : goal.returns-in_err-aux
 returns-in_err-aux g c =
-    let asked : SolveWords = record { mps = c.args.words.mps.now; aux = c.args.words.aux.now } in
+    let asked : SolveWords = asked_by c.args.words in
     let p = err_from_is_err_and c.from_residual-in_err-aux.result c.from_residual-in_err-aux.ensures.1 in
     rw (p.1, p.2)
     (aux_stops asked (g.F.Shelf.state c.args.files.now) (g.F.Shelf.state c.read_mps.new.files)
@@ -23,7 +24,7 @@ returns-in_err-aux g c =
 
 pub returns-in_err-report : goal.returns-in_err-report
 returns-in_err-report g c =
-    let asked : SolveWords = record { mps = c.args.words.mps.now; aux = c.args.words.aux.now } in
+    let asked : SolveWords = asked_by c.args.words in
     let p = err_from_is_err_and c.from_residual-in_err-report.result c.from_residual-in_err-report.ensures.1 in
     rw (p.1, p.2)
     (solving_stops asked (g.F.Shelf.state c.args.files.now) (g.F.Shelf.state c.read_mps.new.files)
@@ -33,7 +34,7 @@ returns-in_err-report g c =
 
 pub returns-in_err-put : goal.returns-in_err-put
 returns-in_err-put g c =
-    let asked : SolveWords = record { mps = c.args.words.mps.now; aux = c.args.words.aux.now } in
+    let asked : SolveWords = asked_by c.args.words in
     let p = err_from_is_err_and c.from_residual-in_err-put.result c.from_residual-in_err-put.ensures.1 in
     rw (p.1, p.2)
     (printing_stops asked (g.F.Shelf.state c.args.files.now) (g.F.Shelf.state c.read_mps.new.files)
@@ -45,7 +46,7 @@ returns-in_err-put g c =
 
 pub returns : goal.returns
 returns g c =
-    let asked : SolveWords = record { mps = c.args.words.mps.now; aux = c.args.words.aux.now } in
+    let asked : SolveWords = asked_by c.args.words in
     answered asked (g.F.Shelf.state c.args.files.now) (g.F.Shelf.state c.read_mps.new.files)
     (g.F.Shelf.state c.read_aux.new.files) c.in_ok-mps.mps c.in_ok-aux.aux
     c.in_ok-mps.ensures.read c.in_ok-mps.ensures.counts c.in_ok-aux.ensures.read c.in_ok-aux.ensures.counts
