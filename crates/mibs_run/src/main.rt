@@ -2,7 +2,7 @@
 #![tactic(auto)]
 
 use bl_outer::{DirShelf, NoGate, StdSink};
-use bl_run::{Status, run, out_of_memory};
+use bl_run::{Status, out_of_memory, run};
 use std::alloc::{AllocError, Global};
 use std::env;
 use std::io::ErrorKind;
