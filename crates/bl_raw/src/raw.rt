@@ -24,9 +24,10 @@ pub struct RawColumn {
     pub entries: Listed<(u32, i64)>,
 }
 
-/// What an MPS text says.
+/// What an MPS text says. The costs are the text's own; the leader minimises them, or maximises.
 #[derive(Debug, Drop)]
 pub struct RawMps {
+    pub maximise: bool,
     pub objective: Name,
     pub rows: Listed<RawRow>,
     pub columns: Listed<RawColumn>,

@@ -1,0 +1,13 @@
+pub mod Agrees
+pub mod Names
+pub mod LineParts
+pub mod Rows
+pub mod Pairs
+pub mod Sides
+pub mod Bounds
+pub mod Slots
+pub mod ColumnNames
+pub mod Columns
+pub mod Sections
+pub mod Lines
+pub mod Model

@@ -1,0 +1,3 @@
+-- what is computed of the lines that were read (internal)
+pub mod Whole
+pub mod Model
