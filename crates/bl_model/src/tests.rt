@@ -54,6 +54,7 @@ fn moore_and_bard(alloc: Global, rows: [RawRow; 4]) -> Result<RawMps, Fail>
         column(alloc, -10, [20, 2, -1, 10])?,
     ]?;
     Ok(RawMps {
+        maximise: false,
         objective: name(alloc, b'Z')?,
         rows: Listed::new(Vec::from_array(alloc, rows)?),
         columns: Listed::new(columns),

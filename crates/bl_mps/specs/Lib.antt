@@ -1,18 +1,2 @@
-pub mod Bounds
-pub mod Columns
-pub mod ColumnViews
-pub mod Entries
-pub mod First
-pub mod Lines
-pub mod Numbers
-pub mod Rows
-pub mod RowViews
-pub mod Sections
-pub mod SectionViews
-pub mod Stops
-pub mod Views
-pub mod FirstForm
-pub mod FirstRead
-pub mod Meaning
-pub mod Parts
-pub mod Values
+-- what is read of a text (trusted)
+pub mod Read

@@ -1,7 +1,7 @@
-//! A law over what an MPS text says.
-ghost use Rattle.bl_mps.specs.Meaning.{SaysOneModel};
+//! Laws over what MPS texts say.
+ghost use Rattle.bl_mps.specs.Read.{HasOneReading};
 
-/// A text says one model at most.
-pub fn text_says_one_model()
-    ensures { SaysOneModel }
+/// Each text either says one model or has a first fault, and never both.
+pub fn text_has_one_reading()
+    ensures { HasOneReading }
 {}

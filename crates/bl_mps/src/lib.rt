@@ -1,19 +1,13 @@
-//! Reading the MPS text of a model.
+//! The MPS text of a model, read and written.
+//!
+//! `bl_mps_terms` defines what a text says and which rule it breaks first, among whole lines, sections and names;
+//! `bl_mps_read` makes one pass over the lines, `bl_mps_model` makes the model of what was read. This crate proves that
+//! the two are one.
 #![tactic(auto)]
 
-mod bounds;
-mod columns;
-mod entries;
-mod first;
 pub mod laws;
-mod names;
-mod numbers;
-mod raw;
-mod rows;
-mod sections;
-mod stop;
+mod read;
 
-pub use first::read_first;
-
-#[cfg(test)]
-mod tests;
+pub use bl_mps_read::MpsError;
+pub use bl_mps_terms::{MpsFault, MpsRule};
+pub use read::read_mps;

@@ -77,6 +77,7 @@ fn solved(
     requires aux { FitsModel (length columns.items) (length rows.items) aux }
 {
     let mps = RawMps {
+        maximise: false,
         objective: name(alloc, b'Z')?,
         rows: Listed::new(rows),
         columns: Listed::new(columns),

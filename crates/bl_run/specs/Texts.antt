@@ -2,7 +2,7 @@
 use Rattle.std.specs.Prelude.{◌≡◌, ℕ, ◌==◌, List, length, None, Some, codes, if◌then◌else◌}
 use Rattle.bl_raw.specs.declared.raw.RawMps.{RawMps}
 use Rattle.bl_raw.specs.declared.raw.RawAux.{RawAux}
-use Rattle.bl_mps.specs.FirstRead.{IsFirstRead}
+use Rattle.bl_mps_first.specs.FirstRead.{IsFirstRead}
 use Rattle.bl_aux.specs.declared.fault.AuxFault.{AuxFault}
 use Rattle.bl_aux.specs.declared.fault.AuxRule.{AuxRule}
 use Rattle.bl_aux.specs.declared.fault.AuxRule.TheVariants.{Unsupported, BadKey, BadNumber, NotWhole, TooLarge, OutOfOrder, Repeated, BadIndex, BadSense, CountDiffers, TooLong}

@@ -18,7 +18,7 @@ use crate::status::{Answer, Failure};
 use bl_aux::{AuxError, AuxFault, AuxRule};
 use bl_limits::{MAX_TEXT_BYTES, MAX_WALK_POINTS};
 use bl_model::{Bilevel, build};
-use bl_mps::read_first;
+use bl_mps_first::read_first;
 use bl_outer::{Got, ReadFail, Shelf, Sink, read_text};
 use bl_plain::{Optimum, plain_best};
 use bl_raw::{RawAux, RawColumn, RawMps};

@@ -1,0 +1,15 @@
+pub mod NameLists
+pub mod DataSplits
+pub mod Tables
+pub mod Distinct
+pub mod Takes
+pub mod ShortValues
+pub mod RowLaws
+pub mod PairLaws
+pub mod SideLaws
+pub mod ColumnLaws
+pub mod BoundLaws
+pub mod SectionLaws
+pub mod MeaningLaws
+pub mod FirstLaws
+pub mod OneModel
