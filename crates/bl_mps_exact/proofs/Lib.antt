@@ -1,0 +1,4 @@
+pub mod Agrees
+pub mod Names
+pub mod LineParts
+pub mod Rows

@@ -1,0 +1,2 @@
+//! That the pass over a text finds what the text says.
+#![tactic(auto)]
