@@ -1,6 +1,6 @@
 -- From the steps of `solve` to how it ended.
 use Rattle.std.proofs.Common.{◌≡◌, ℕ, suc, ◌<◌, ◌≤◌, List, [], length, replicate, arith, refl, sym, subst, ◌∙◌, inl, inr}
-use Rattle.std.specs.Prelude.{pos, Option, None, Some, codes}
+use Rattle.std.specs.Prelude.{false, ℤ, true, nat_lt, pos, Option, None, Some, codes}
 use Rattle.std.proofs.lemmas.List.{length-replicate}
 use Rattle.bl_outer.specs.Count.{Grew}
 use Rattle.bl_outer.specs.Files.{Files, IfTold, Holds, IsAbsent, Told}
@@ -12,6 +12,9 @@ use Rattle.bl_raw.specs.declared.raw.RawMps.{RawMps}
 use Rattle.bl_raw.specs.declared.raw.RawAux.{RawAux}
 use Rattle.bl_aux.specs.declared.fault.AuxRule.TheVariants.{TooLong}
 use Rattle.bl_aux.specs.Texts.{too_long}
+use Rattle.bl_mps_terms.specs.declared.fault.MpsRule.TheVariants as mps
+use Rattle.bl_mps_terms.specs.Faults.{first_fault}
+use Rattle.std.proofs.lemmas.Bool.Decides.{nat_tests}
 use Rattle.bl_model.specs.Build.{program_of}
 use Rattle.bl_terms.specs.Programs.{root}
 use Rattle.bl_terms.specs.Trees.{point_count}
@@ -52,13 +55,25 @@ unread files name Bad failure.WriteFault h = h
 unread files name Bad failure.Memory h = h
 unread files name Bad (failure.Missing file) h = h
 
--- a text that is too long isn't in the first form
-pub mps_too_long : (files : Option Files) (name : List ℕ) → HasText files name IsTooLong
-    → HasText files name (λ text. IsMpsFault text AsWhole (codes "NotYet"))
-mps_too_long files name h = record {
+-- a text that is too long breaks that rule of an MPS text
+too_long_mps : (default : ℤ) (text : List ℕ) → MAX_TEXT_BYTES < length text
+    → first_fault default text ≡ Some (record { rule = mps.TooLong; line = 0; column = 0 })
+unfolding first_fault
+too_long_mps default text long =
+    let yes : nat_lt MAX_TEXT_BYTES (length text) ≡ true = grind (arith, nat_tests) in rw yes refl
+
+pub mps_too_long : (files : Option Files) (name : List ℕ) (default : ℤ) (place : Place) (rule : List ℕ)
+    → place ≡ AsWhole → rule ≡ codes "TooLong" → HasText files name IsTooLong
+    → HasText files name (λ text. IsMpsFault default text place rule)
+mps_too_long files name default place rule at by_rule h = record {
   text = h.text;
   held = h.held;
-  is = record { unread = λ form. let size = form.size in let longer = h.is in omega arith; not_yet = (refl, refl) };
+  is = record {
+    fault = record { rule = mps.TooLong; line = 0; column = 0 };
+    first = too_long_mps default h.text h.is;
+    at = at;
+    by_rule = by_rule;
+  };
 }
 
 -- a text that is too long breaks that rule of an auxiliary text
@@ -112,7 +127,7 @@ abbrev run_of : SolveWords → Run
 run_of asked = record {
   words = asked;
   mps_text = [];
-  mps = record { objective = []; rows = []; columns = [] };
+  mps = record { maximise = false; objective = []; rows = []; columns = [] };
   aux_text = [];
   aux = record { columns = []; rows = []; costs = []; sense = pos 1 };
   statement = report.None;
@@ -182,7 +197,7 @@ module _ (asked : SolveWords) (old new : ShelfState) (out : SinkState) where
   }
 
   -- the MPS file wasn't read
-  pub mps_stops : (failure : Failure) → FailsToRead old.contents asked.mps IsMpsFault failure
+  pub mps_stops : (failure : Failure) → FailsToRead old.contents asked.mps (IsMpsFault asked.default_upper) failure
       → ReadsTo (failure_ending failure) old new
       → Ends asked (record { files = old; out = out }) (record { files = new; out = out }) (failure_ending failure)
   mps_stops failure.Words why h = absurd why
@@ -198,7 +213,7 @@ module _ (asked : SolveWords) (old new : ShelfState) (out : SinkState) where
 
 -- the MPS text was read, and the auxiliary file wasn't
 module _ (asked : SolveWords) (old middle new : ShelfState) (out : SinkState) (mps : RawMps)
-    (read : HasText old.contents asked.mps (λ text. IsMpsText text mps)) (quiet : ReadsTo Done old middle) where
+    (read : HasText old.contents asked.mps (λ text. IsMpsText asked.default_upper text mps)) (quiet : ReadsTo Done old middle) where
   abbrev read_run : Run
   read_run = record (run_of asked) { mps_text = read.text; mps = mps }
 
@@ -239,7 +254,7 @@ module _ (asked : SolveWords) (old middle new : ShelfState) (out : SinkState) (m
 
 -- both texts were read
 module _ (asked : SolveWords) (old middle new : ShelfState) (mps : RawMps) (aux : RawAux)
-    (mps_read : HasText old.contents asked.mps (λ text. IsMpsText text mps)) (quiet : ReadsTo Done old middle)
+    (mps_read : HasText old.contents asked.mps (λ text. IsMpsText asked.default_upper text mps)) (quiet : ReadsTo Done old middle)
     (aux_read : HasText middle.contents asked.aux (λ text. IsAuxText mps text aux))
     (still : ReadsTo Done middle new) where
   abbrev both_run : Statement → Run

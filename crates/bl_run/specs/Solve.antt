@@ -41,7 +41,7 @@ HasAux files run = IfTold files (λ told. Holds told run.words.aux run.aux_text)
 -- the MPS file's text says the model
 pub record ReadsMps (files : Option Files) (run : Run) : Type 0 where
   pub held : HasMps files run
-  pub says : IsMpsText run.mps_text run.mps
+  pub says : IsMpsText run.words.default_upper run.mps_text run.mps
 
 -- both files' texts say the model and its follower
 pub record ReadsBoth (files : Option Files) (run : Run) : Type 0 where
@@ -59,7 +59,7 @@ pub record Solves (files : Option Files) (run : Run) : Type 0 where
 pub record RefusesMps (files : Option Files) (run : Run) (file : List ℕ) (place : Place) (rule : List ℕ) : Type 0 where
   pub named : file ≡ run.words.mps
   pub held : HasMps files run
-  pub fault : IsMpsFault run.mps_text place rule
+  pub fault : IsMpsFault run.words.default_upper run.mps_text place rule
 
 -- the MPS text says a model, and the auxiliary text breaks the rule
 pub record RefusesAux (files : Option Files) (run : Run) (file : List ℕ) (place : Place) (rule : List ℕ) : Type 0 where

@@ -1,5 +1,5 @@
 -- Internal: what the private calls of a command promise one another.
-use Rattle.std.specs.Prelude.{◌≡◌, ℕ, ◌<◌, List, ◌++◌, length, Option, Ok, Err, ⊤, codes}
+use Rattle.std.specs.Prelude.{ℤ, pos, ◌≤ℤ◌, ◌≤◌, unsigned_abs, ◌≡◌, ℕ, ◌<◌, List, ◌++◌, length, Option, Ok, Err, ⊤, codes}
 use Rattle.std.specs.declared.result.Result.{Result}
 use Rattle.bl_outer.specs.Count.{Grew}
 use Rattle.bl_outer.specs.Files.{Files, IfTold, Told, IsAbsent}
@@ -22,15 +22,16 @@ use Rattle.bl_run.specs.Texts.{IsNotYet}
 use Rattle.bl_run.specs.declared.fault.TextFault.{TextFault}
 use Rattle.bl_run.specs.declared.fault.Place as place
 use Rattle.bl_run.specs.declared.fault.Place.TheVariants as variant
-use Rattle.bl_run.specs.Endings.{Place, AtLine, AsWhole, ToOutput, Ending, Done, NoPoint, BadWords, BadText, ReadFault, WriteFault, OutOfMemory, Missing, place_text, file_line}
+use Rattle.bl_run.specs.Endings.{Place, AtLine, AtColumn, AsWhole, ToOutput, Ending, Done, NoPoint, BadWords, BadText, ReadFault, WriteFault, OutOfMemory, Missing, place_text, file_line}
 use Rattle.bl_run.specs.Report.{Statement, Answers, report_of}
 use Rattle.bl_run.specs.Solve.{Run, ending_of, IsCause}
 use Rattle.bl_run.specs.Promise.{Outside, HasCause, ReadFaultsAt, MissesAt, Leaves}
-use Rattle.bl_limits.specs.declared.TheConstants.{MAX_TEXT_BYTES, MAX_WALK_POINTS}
+use Rattle.bl_limits.specs.declared.TheConstants.{MAX_NUMBER, MAX_TEXT_BYTES, MAX_WALK_POINTS}
 
 -- the place of a fault
 abbrev pub place_of : place.Place → Place
 place_of (variant.Line line) = AtLine line
+place_of (variant.Column column) = AtColumn column
 place_of variant.Whole = AsWhole
 
 -- the ending with an answer
@@ -118,6 +119,10 @@ FailsToSolve name mps aux (failure.ReadFault file) = ⊥
 FailsToSolve name mps aux failure.WriteFault = ⊥
 FailsToSolve name mps aux failure.Memory = ⊤
 FailsToSolve name mps aux (failure.Missing file) = ⊥
+
+-- a default upper bound within its limits
+abbrev pub IsDefaultUpper : ℤ → Type 0
+IsDefaultUpper upper = (pos 0 ≤ℤ upper) × (unsigned_abs upper ≤ MAX_NUMBER)
 
 -- what the words ask for
 abbrev pub asked_by : words.SolveWords → SolveWords

@@ -1,15 +1,17 @@
 //! The rule that a text breaks first, and where.
 
 ghost use Rattle.std.specs.Prelude.{◌≡◌};
-ghost use Rattle.bl_run.specs.Texts.{aux_rule, line_place};
+ghost use Rattle.bl_run.specs.Texts.{mps_rule, mps_place, is_of_column, aux_rule, line_place};
 ghost use Rattle.bl_run.specs.Steps.{place_of};
 
 use bl_aux::{AuxFault, AuxRule};
+use bl_mps::{MpsFault, MpsRule};
 
 /// Where a text breaks a rule. Lines count from 1, and columns of the model from 0.
 #[derive(Clone, Copy, Debug)]
 pub(crate) enum Place {
     Line(u64),
+    Column(u32),
     Whole,
 }
 
@@ -26,6 +28,65 @@ impl TextFault {
         place: Place::Whole,
         rule: "NotYet",
     };
+}
+
+/// The fault of an MPS text.
+pub(crate) fn mps_fault(fault: MpsFault) -> TextFault
+    ensures place { place_of result.place ≡ mps_place fault }
+    ensures rule { result.rule.now ≡ mps_rule fault.rule }
+{
+    TextFault {
+        place: mps_place(fault),
+        rule: mps_rule(fault.rule),
+    }
+}
+
+/// The line, or else the column where the rule is of one column.
+fn mps_place(fault: MpsFault) -> Place
+    ensures { place_of result ≡ mps_place fault }
+{
+    if fault.line == 0 && is_of_column(fault.rule) {
+        Place::Column(fault.column)
+    } else {
+        line_place(fault.line)
+    }
+}
+
+fn is_of_column(rule: MpsRule) -> bool
+    ensures { result ≡ is_of_column rule }
+{
+    match rule {
+        MpsRule::Continuous | MpsRule::Unbounded | MpsRule::NegativeUpper | MpsRule::EmptyBounds =>
+            true,
+        _ => false,
+    }
+}
+
+fn mps_rule(rule: MpsRule) -> &'static str
+    ensures { result.now ≡ mps_rule rule }
+{
+    match rule {
+        MpsRule::BadSection => "BadSection",
+        MpsRule::BadFields => "BadFields",
+        MpsRule::BadObjSense => "BadObjSense",
+        MpsRule::DuplicateRow => "DuplicateRow",
+        MpsRule::TooMany => "TooMany",
+        MpsRule::DuplicateColumn => "DuplicateColumn",
+        MpsRule::UnknownRow => "UnknownRow",
+        MpsRule::UnknownColumn => "UnknownColumn",
+        MpsRule::BadNumber => "BadNumber",
+        MpsRule::NotWhole => "NotWhole",
+        MpsRule::TooLarge => "TooLarge",
+        MpsRule::DuplicateEntry => "DuplicateEntry",
+        MpsRule::ObjectiveConstant => "ObjectiveConstant",
+        MpsRule::NoEnd => "NoEnd",
+        MpsRule::TooLong => "TooLong",
+        MpsRule::NoObjective => "NoObjective",
+        MpsRule::Continuous => "Continuous",
+        MpsRule::Unbounded => "Unbounded",
+        MpsRule::NegativeUpper => "NegativeUpper",
+        MpsRule::EmptyBounds => "EmptyBounds",
+    }
 }
 
 /// The fault of an auxiliary text.

@@ -10,20 +10,26 @@ ghost use Rattle.bl_terms.specs.Trees.{point_count};
 ghost use Rattle.bl_raw.specs.Raw.{IsRawModel, FitsModel};
 ghost use Rattle.bl_model.specs.Build.{program_of};
 ghost use Rattle.bl_run.specs.Texts.{IsMpsText, IsMpsFault, IsAuxText, IsAuxFault};
-ghost use Rattle.bl_run.specs.Steps.{result_ending, OnlyCounts, HasText, FailsToRead, NoFault, IsTooLong, IsReport, FailsToSolve, Ends, asked_by};
+ghost use Rattle.bl_run.specs.Steps.{result_ending, OnlyCounts, HasText, FailsToRead, NoFault, IsTooLong, IsReport, FailsToSolve, Ends, IsDefaultUpper, asked_by};
 
-use crate::fault::{TextFault, aux_fault};
+use crate::fault::{TextFault, aux_fault, mps_fault};
 use crate::report::{INFEASIBLE, optimal_report};
 use crate::status::{Answer, Failure};
 use bl_aux::{AuxError, AuxFault, AuxRule};
 use bl_limits::{MAX_TEXT_BYTES, MAX_WALK_POINTS};
 use bl_model::{Bilevel, build};
-use bl_mps_first::read_first;
+use bl_mps::{MpsError, MpsFault, MpsRule};
 use bl_outer::{Got, ReadFail, Shelf, Sink, read_text};
 use bl_plain::{Optimum, plain_best};
 use bl_raw::{RawAux, RawColumn, RawMps};
 use bl_words::SolveWords;
 use std::alloc::{AllocError, Global};
+
+const MPS_TOO_LONG: MpsFault = MpsFault {
+    rule: MpsRule::TooLong,
+    line: 0,
+    column: 0,
+};
 
 const AUX_TOO_LONG: AuxFault = AuxFault {
     rule: AuxRule::TooLong,
@@ -44,12 +50,13 @@ pub(crate) fn solve<'a, F: Shelf, O: Sink>(
     files: &mut F,
     out: &mut O,
 ) -> Result<Answer, Failure<'a>>
+    requires { IsDefaultUpper words.default_upper }
     ensures { Ends (asked_by words.entry)
         (record { files = F.state files.old; out = O.state out.old })
         (record { files = F.state files.new; out = O.state out.new })
         (result_ending result) }
 {
-    let mps = read_mps(alloc, files, words.mps)?;
+    let mps = read_mps(alloc, files, words.mps, words.default_upper)?;
     let aux = read_aux(alloc, files, words.aux, &mps)?;
     let report = solve_model(alloc, words.mps, &mps, &aux)?;
     out.put(&report.text)?;
@@ -61,19 +68,23 @@ fn read_mps<'a, F: Shelf>(
     alloc: Global,
     files: &mut F,
     name: &'a str,
+    default_upper: i64,
 ) -> Result<RawMps, Failure<'a>>
+    requires { IsDefaultUpper default_upper }
     ensures limits { IfOk result IsRawModel }
     ensures read { IfOk result (λ mps.
-        HasText (F.state files.old).contents name.now (λ text. IsMpsText text mps)) }
-    ensures failed { IfErr result (FailsToRead (F.state files.old).contents name.now IsMpsFault) }
+        HasText (F.state files.old).contents name.now (λ text. IsMpsText default_upper text mps)) }
+    ensures failed { IfErr result
+        (FailsToRead (F.state files.old).contents name.now (IsMpsFault default_upper)) }
     ensures counts { OnlyCounts (F.state files.old) (F.state files.new) result }
 {
     let Some(text) = read_file(alloc, files, name)? else {
-        return Err(Failure::Text(name, TextFault::NOT_YET));
+        return Err(Failure::Text(name, mps_fault(MPS_TOO_LONG)));
     };
-    match read_first(alloc, &text)? {
-        Some(mps) => Ok(mps),
-        None => Err(Failure::Text(name, TextFault::NOT_YET)),
+    match bl_mps::read_mps(alloc, &text, default_upper) {
+        Ok(mps) => Ok(mps),
+        Err(MpsError::Fault(fault)) => Err(Failure::Text(name, mps_fault(fault))),
+        Err(MpsError::Memory) => Err(Failure::Memory),
     }
 }
 

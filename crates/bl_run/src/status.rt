@@ -123,6 +123,11 @@ fn put_rule<E: Sink>(err: &mut E, fault: TextFault) -> Result<(), SinkFail>
             let line = digits.format(line).as_bytes();
             put_all(err, &[b"line ", line, b": ", rule, b"\n"])
         }
+        Place::Column(column) => {
+            let mut digits = Buffer::new();
+            let column = digits.format(column).as_bytes();
+            put_all(err, &[b"column ", column, b": ", rule, b"\n"])
+        }
     }
 }
 

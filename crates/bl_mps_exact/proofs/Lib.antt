@@ -1,4 +1,0 @@
-pub mod Agrees
-pub mod Names
-pub mod LineParts
-pub mod Rows

@@ -1,2 +1,0 @@
-//! That the pass over a text finds what the text says.
-#![tactic(auto)]
