@@ -8,7 +8,7 @@ use Rattle.bl_terms.specs.Points.{is_among}
 use Rattle.bl_terms.specs.Programs.{Row, is_linking, places_where}
 use Rattle.bl_raw.specs.declared.raw.RawMps.{RawMps}
 use Rattle.bl_raw.specs.declared.raw.RawAux.{RawAux}
-use Rattle.bl_model.specs.Build.{number_for, rows_of, follower_numbers, program_of}
+use Rattle.bl_model.specs.Build.{number_for, rows_of, follower_numbers, leader_sense_of, program_of}
 use Rattle.bl_terms.proofs.ProgramLemmas.{places_where-agree}
 
 -- the marked places, where the marks are a test's answers
@@ -43,17 +43,19 @@ pub record Parts : Type 0 where
   pub follower : List ℕ
   pub links : List ℕ
   pub sense : ℤ
+  pub leader_sense : ℤ
 
 -- the parts are those that two texts make
 pub record AreParts (mps : RawMps) (aux : RawAux) (q : Parts) : Type 0 where
   pub lo : q.lo ≡ map (λ c. c.lo) mps.columns
   pub hi : q.hi ≡ map (λ c. c.hi) mps.columns
   pub rows : q.rows ≡ rows_of mps aux.rows
-  pub cost : q.cost ≡ map (λ c. c.cost) mps.columns
+  pub cost : q.cost ≡ map (λ c. c.cost *ℤ leader_sense_of mps.maximise) mps.columns
   pub follower_cost : q.follower_cost ≡ map (number_for (follower_numbers aux)) (range_with_len 0 (length mps.columns))
   pub follower : q.follower ≡ places_where (λ k. is_among k aux.columns) (length mps.columns)
   pub links : q.links ≡ places_where (is_linking aux.columns q.rows) (length mps.columns)
   pub sense : q.sense ≡ aux.sense
+  pub leader_sense : q.leader_sense ≡ leader_sense_of mps.maximise
 
 pub program_made : (mps : RawMps) (aux : RawAux) (q : Parts) → AreParts mps aux q
     → record {
@@ -65,8 +67,8 @@ pub program_made : (mps : RawMps) (aux : RawAux) (q : Parts) → AreParts mps au
       follower = q.follower;
       links = q.links;
       sense = q.sense;
-      leader_sense = pos 1;
+      leader_sense = q.leader_sense;
     } ≡ program_of mps aux
 unfolding program_of
 program_made mps aux q are =
-    rw (are.links, are.lo, are.hi, are.rows, are.cost, are.follower_cost, are.follower, are.sense) refl
+    rw (are.links, are.lo, are.hi, are.rows, are.cost, are.follower_cost, are.follower, are.sense, are.leader_sense) refl

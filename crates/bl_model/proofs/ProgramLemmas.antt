@@ -1,5 +1,5 @@
 -- The program of two sound texts is sound, and keeps the limits.
-use Rattle.std.proofs.Common.{◌≡◌, ℕ, zero, suc, ◌+◌, ◌*◌, ◌<◌, ◌≤◌, Bool, true, false, cond, ◌||◌, List, [], ◌∷◌, length, map, ◌∙◌, sym, refl, ap, ⊎_elim, inl, arith}
+use Rattle.std.proofs.Common.{◌≡◌, ℕ, zero, suc, ◌+◌, ◌*◌, ◌<◌, ◌≤◌, Bool, true, false, cond, ◌||◌, List, [], ◌∷◌, length, map, ◌∙◌, sym, refl, ap, ⊎_elim, inl, inr, arith}
 use Rattle.std.specs.Prelude.{ℤ, pos, neg_ℤ, ◌*ℤ◌, ◌≤ℤ◌, ◌==◌, All, Contains, unsigned_abs, Option, None, Some, IfSome}
 use Rattle.std.specs.List.{range_with_len, AllByRecursion, zip}
 use Rattle.std.proofs.lemmas.Int.{unsigned_abs-mul}
@@ -20,7 +20,7 @@ use Rattle.bl_raw.specs.declared.raw.RawColumn.{RawColumn}
 use Rattle.bl_raw.specs.declared.raw.RawMps.{RawMps}
 use Rattle.bl_raw.specs.declared.raw.RawAux.{RawAux}
 use Rattle.bl_raw.specs.Raw.{IsSmall, IsSide, IsSense, IsRow, IsColumn, FitsModel, IsRawModel}
-use Rattle.bl_model.specs.Build.{number_for, coefficients, rhs_row, lhs_row, sides, rows_from, follower_numbers, program_of}
+use Rattle.bl_model.specs.Build.{number_for, coefficients, rhs_row, lhs_row, sides, rows_from, follower_numbers, leader_sense_of, program_of}
 use Rattle.bl_model.proofs.BuildLemmas.{IsSmall-number_for}
 
 -- ---- sizes
@@ -120,6 +120,15 @@ small_zip [] vs h = tt
 small_zip (k ∷ ks) [] h = tt
 small_zip (k ∷ ks) (v ∷ vs) h = (h.0, small_zip ks vs h.1)
 
+small_one : (sense z : ℤ) → IsSense sense → IsSmall z → IsSmall (z *ℤ sense)
+small_one sense z is h =
+    let one : unsigned_abs sense ≡ 1 = ⊎_elim (λ e. ap unsigned_abs e) (λ e. ap unsigned_abs e) is in
+    rw (unsigned_abs-mul z sense, one) (omega (arith, h))
+
+pub leader_sense_is : (maximise : Bool) → IsSense (leader_sense_of maximise)
+leader_sense_is true = inr refl
+leader_sense_is false = inl refl
+
 small_turned : (sense : ℤ) (vs : List ℤ) → IsSense sense → AllByRecursion IsSmall vs
     → AllByRecursion IsSmall (map (λ v. v *ℤ sense) vs)
 small_turned sense [] is h = tt
@@ -172,7 +181,7 @@ program_sound mps aux keeps fits =
             ordered_columns (length mps.rows) cs sound;
       };
       row_columns = λ i below. (All-get_or (IsSound n) p.rows i no_row below rows).count ∙ sym count;
-      cost_columns = length-map cs (λ c. c.cost) ∙ sym count;
+      cost_columns = length-map cs (λ c. c.cost *ℤ leader_sense_of mps.maximise) ∙ sym count;
       follower_cost_columns = length-map-range_with_len (number_for (follower_numbers aux)) 0 n ∙ sym count;
       follower_rising = places_where-rising follows n;
       follower_below = λ k has. rw count (passes_from_Contains follows n k has).0;
@@ -202,7 +211,7 @@ program_sound mps aux keeps fits =
         );
       };
       sign = fits.sense;
-      leader_sign = inl refl;
+      leader_sign = leader_sense_is mps.maximise;
     }
 
 pub program_limits : (mps : RawMps) (aux : RawAux) → IsRawModel mps
@@ -223,7 +232,8 @@ program_limits mps aux keeps fits =
       few_rows = omega (arith, keeps.row_count, few_rows cs aux.rows 0 mps.rows);
       coefs = λ i k below. (All-get_or (IsSound n) p.rows i no_row below rows).coefs k;
       rhs = λ i below. (All-get_or (IsSound n) p.rows i no_row below rows).rhs;
-      costs = within_columns (λ c. c.cost) m cs (λ c is. is.cost) sound;
+      costs = within_columns (λ c. c.cost *ℤ leader_sense_of mps.maximise) m cs
+          (λ c is. small_one (leader_sense_of mps.maximise) c.cost (leader_sense_is mps.maximise) is.cost) sound;
       follower_costs = λ k. at_places (number_for (follower_numbers aux)) n k (IsWithin MAX_NUMBER)
           (within_zero MAX_NUMBER) (λ below. record { magnitude = IsSmall-number_for (follower_numbers aux) k costs });
       lower_bounds = within_columns (λ c. c.lo) m cs (λ c is. is.lo) sound;

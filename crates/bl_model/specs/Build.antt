@@ -1,5 +1,5 @@
 -- Trusted. The program that a model's two texts make together.
-use Rattle.std.specs.Prelude.{ℕ, ◌+◌, Bool, ◌==◌, if◌then◌else◌, List, [], ◌∷◌, ◌++◌, length, map, ℤ, pos, neg_ℤ, ◌*ℤ◌, Option, None, Some}
+use Rattle.std.specs.Prelude.{ℕ, ◌+◌, Bool, ◌==◌, if◌then◌else◌, List, [], ◌∷◌, ◌++◌, length, map, ℤ, pos, negsuc, neg_ℤ, ◌*ℤ◌, Option, None, Some}
 use Rattle.std.specs.List.{zip, range_with_len}
 use Rattle.bl_terms.specs.Points.{is_among}
 use Rattle.bl_terms.specs.Programs.{Row, Program, is_linking, places_where}
@@ -51,16 +51,20 @@ follower_numbers aux = zip aux.columns (map (λ cost. cost *ℤ aux.sense) aux.c
 abbrev pub rows_of : RawMps → List ℕ → List Row
 rows_of mps lower_rows = rows_from mps.columns lower_rows 0 mps.rows
 
+-- the sense of the leader: 1 where it minimises and -1 where it maximises
+abbrev pub leader_sense_of : Bool → ℤ
+leader_sense_of maximise = if maximise then negsuc 0 else pos 1
+
 -- the program that the two texts make
 unfoldable pub program_of : RawMps → RawAux → Program
 program_of mps aux = record {
   lo = map (λ c. c.lo) mps.columns;
   hi = map (λ c. c.hi) mps.columns;
   rows = rows_of mps aux.rows;
-  cost = map (λ c. c.cost) mps.columns;
+  cost = map (λ c. c.cost *ℤ leader_sense_of mps.maximise) mps.columns;
   follower_cost = map (number_for (follower_numbers aux)) (range_with_len 0 (length mps.columns));
   follower = places_where (λ k. is_among k aux.columns) (length mps.columns);
   links = places_where (is_linking aux.columns (rows_of mps aux.rows)) (length mps.columns);
   sense = aux.sense;
-  leader_sense = pos 1;
+  leader_sense = leader_sense_of mps.maximise;
 }

@@ -7,7 +7,7 @@ ghost use Rattle.std.specs.Ordering.{int_eq};
 ghost use Rattle.bl_raw.specs.Raw.{IsRawModel, FitsModel, IsSmall, IsSide, IsSense, IsRow, IsColumn};
 ghost use Rattle.bl_terms.specs.Points.{is_among};
 ghost use Rattle.bl_terms.specs.Programs.{is_in_lower, is_linking, places_where};
-ghost use Rattle.bl_model.specs.Build.{dense_column, rhs_row, lhs_row, rows_from, follower_numbers, number_for, program_of};
+ghost use Rattle.bl_model.specs.Build.{dense_column, rhs_row, lhs_row, rows_from, follower_numbers, leader_sense_of, number_for, program_of};
 
 use crate::bilevel::Bilevel;
 use crate::places::{marked, marks, numbers};
@@ -242,15 +242,36 @@ fn highs(alloc: Global, columns: &[RawColumn]) -> Result<Vec<i64>, AllocError>
     columns.iter().map(|column| column.hi).collect(alloc)
 }
 
-fn costs(alloc: Global, columns: &[RawColumn]) -> Result<Vec<i64>, AllocError>
-    ensures { IfOk result (λ costs. costs.items ≡ map (λ c. c.cost) columns.now) }
+// The sense of the leader: 1 where it minimises and -1 where it maximises.
+fn leader_sense(maximise: bool) -> i64
+    ensures value { result ≡ leader_sense_of maximise }
+    ensures sense { IsSense result }
 {
-    columns.iter().map(|column| column.cost).collect(alloc)
+    if maximise { -1 } else { 1 }
+}
+
+// The cost of a column to the leader, which is to be minimised.
+fn leader_cost(column: &RawColumn, maximise: bool) -> i64
+    requires { IsSmall column.now.cost }
+    ensures { result ≡ column.now.cost *ℤ leader_sense_of maximise }
+{
+    minimised(column.cost, leader_sense(maximise))
+}
+
+fn costs(alloc: Global, columns: &[RawColumn], maximise: bool) -> Result<Vec<i64>, AllocError>
+    requires { All (λ c. IsSmall c.cost) columns.now }
+    ensures { IfOk result (λ costs. costs.items ≡ map (λ c. c.cost *ℤ leader_sense_of maximise) columns.now) }
+{
+    let mut costs = Vec::with_capacity(alloc, columns.len())?;
+    for column in columns {
+        costs.push(leader_cost(column, maximise))?;
+    }
+    Ok(costs)
 }
 
 /// Makes the program that the two texts describe: for each row of the MPS text in order its
 /// right-hand side as `coef·z <= hi` and then its left-hand side as `-coef·z <= -lo`, the
-/// follower's costs negated where it maximises, and the linking columns, which are those of the
+/// costs of the leader and of the follower, each negated where it maximises, and the linking columns, which are those of the
 /// leader that stand in a row of the follower.
 pub fn build(alloc: Global, mps: &RawMps, aux: &RawAux) -> Result<Bilevel, AllocError>
     requires mps { IsRawModel mps.now }
@@ -268,11 +289,11 @@ pub fn build(alloc: Global, mps: &RawMps, aux: &RawAux) -> Result<Bilevel, Alloc
         lo: lows(alloc, columns)?,
         hi: highs(alloc, columns)?,
         rows,
-        cost: costs(alloc, columns)?,
+        cost: costs(alloc, columns, mps.maximise)?,
         follower_cost: follower_costs(alloc, count, aux)?,
         follower: follower_places(alloc, count, follower)?,
         links,
         sense: aux.sense,
-        leader_sense: 1,
+        leader_sense: leader_sense(mps.maximise),
     })
 }

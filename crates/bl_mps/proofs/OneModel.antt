@@ -21,19 +21,22 @@ use Rattle.bl_mps.proofs.Model.{IsExact, read_exact}
 
 -- ---- what is given is what is read
 
-given_by : (default : ℤ) (text : List ℕ) (read : Result RawMps MpsFault) (result : Result RawMps MpsError) → IsExact default text read → GivesRead (λ mps. mps) result read → IsRead default text result
+given_by : (default : ℤ) (text : List ℕ) (read : Result RawMps MpsFault) (result : Result RawMps MpsError)
+    → IsExact default text read → GivesRead (λ mps. mps) result read → IsRead default text result
 given_by default text (Ok mps) (Ok x) e g = let same : mps ≡ x = cc in rw (← same) e
 given_by default text (Err fault) (Ok x) e g = absurd cc
 given_by default text read (Err Memory) e g = tt
 given_by default text (Ok mps) (Err (Fault f)) e g = absurd cc
 given_by default text (Err fault) (Err (Fault f)) e g = let same : fault ≡ f = cc in rw (← same) e
 
-pub given_exact : (default : ℤ) (text : List ℕ) (result : Result RawMps MpsError) → GivesRead (λ mps. mps) result (mps_read default text) → IsRead default text result
+pub given_exact : (default : ℤ) (text : List ℕ) (result : Result RawMps MpsError)
+    → GivesRead (λ mps. mps) result (mps_read default text) → IsRead default text result
 given_exact default text result g = given_by default text (mps_read default text) result (read_exact default text) g
 
 -- ---- one model
 
-same_column : (a b : RawColumn) → a.name ≡ b.name → a.lo ≡ b.lo → a.hi ≡ b.hi → a.cost ≡ b.cost → a.entries ≡ b.entries → a ≡ b
+same_column : (a b : RawColumn) → a.name ≡ b.name → a.lo ≡ b.lo → a.hi ≡ b.hi → a.cost ≡ b.cost → a.entries ≡ b.entries
+    → a ≡ b
 same_column a b name lo hi cost entries =
     ap (λ (x : Bytes). record { name = x; lo = a.lo; hi = a.hi; cost = a.cost; entries = a.entries }) name
     ∙ ap (λ (x : ℤ). record { name = b.name; lo = x; hi = a.hi; cost = a.cost; entries = a.entries }) lo
@@ -47,24 +50,32 @@ some_is x y e = cc
 some_name : (x y : Bytes) → Some x ≡ Some y → x ≡ y
 some_name x y e = cc
 
-one_column : (default : ℤ) (lines : List Bytes) (name : Bytes) (a b : RawColumn) → IsColumnOf default lines name a → IsColumnOf default lines name b → a ≡ b
+one_column : (default : ℤ) (lines : List Bytes) (name : Bytes) (a b : RawColumn) → IsColumnOf default lines name a
+    → IsColumnOf default lines name b → a ≡ b
 one_column default lines name a b h g =
-    same_column a b (h.named ∙ sym g.named) (some_is a.lo b.lo (h.lower ∙ sym g.lower)) (some_is a.hi b.hi (h.upper ∙ sym g.upper)) (some_is a.cost b.cost (h.cost ∙ sym g.cost)) (h.entries ∙ sym g.entries)
+    same_column a b (h.named ∙ sym g.named) (some_is a.lo b.lo (h.lower ∙ sym g.lower))
+    (some_is a.hi b.hi (h.upper ∙ sym g.upper)) (some_is a.cost b.cost (h.cost ∙ sym g.cost))
+    (h.entries ∙ sym g.entries)
 
-one_list : (default : ℤ) (lines names : List Bytes) (xs ys : List RawColumn) → AllZip (IsColumnOf default lines) names xs → AllZip (IsColumnOf default lines) names ys → xs ≡ ys
+one_list : (default : ℤ) (lines names : List Bytes) (xs ys : List RawColumn)
+    → AllZip (IsColumnOf default lines) names xs → AllZip (IsColumnOf default lines) names ys → xs ≡ ys
 one_list default lines [] [] [] h g = refl
 one_list default lines [] (a ∷ xs) ys h g = absurd h
 one_list default lines [] [] (b ∷ ys) h g = absurd g
 one_list default lines (name ∷ names) [] ys h g = absurd h
 one_list default lines (name ∷ names) (a ∷ xs) [] h g = absurd g
 one_list default lines (name ∷ names) (a ∷ xs) (b ∷ ys) h g =
-    ap (λ (x : RawColumn). x ∷ xs) (one_column default lines name a b h.0 g.0) ∙ ap (λ (zs : List RawColumn). b ∷ zs) (one_list default lines names xs ys h.1 g.1)
+    ap (λ (x : RawColumn). x ∷ xs) (one_column default lines name a b h.0 g.0)
+    ∙ ap (λ (zs : List RawColumn). b ∷ zs) (one_list default lines names xs ys h.1 g.1)
 
 says_one : (default : ℤ) (lines : List Bytes) (a b : RawMps) → Says default lines a → Says default lines b → a ≡ b
 says_one default lines a b h g =
-    ap (λ (x : Bool). record { maximise = x; objective = a.objective; rows = a.rows; columns = a.columns }) (h.sense ∙ sym g.sense)
-    ∙ ap (λ (x : Bytes). record { maximise = b.maximise; objective = x; rows = a.rows; columns = a.columns }) (some_name a.objective b.objective (h.objective ∙ sym g.objective))
-    ∙ ap (λ (x : List RawRow). record { maximise = b.maximise; objective = b.objective; rows = x; columns = a.columns }) (h.rows ∙ sym g.rows)
+    ap (λ (x : Bool). record { maximise = x; objective = a.objective; rows = a.rows; columns = a.columns })
+    (h.sense ∙ sym g.sense)
+    ∙ ap (λ (x : Bytes). record { maximise = b.maximise; objective = x; rows = a.rows; columns = a.columns })
+    (some_name a.objective b.objective (h.objective ∙ sym g.objective))
+    ∙ ap (λ (x : List RawRow).
+    record { maximise = b.maximise; objective = b.objective; rows = x; columns = a.columns }) (h.rows ∙ sym g.rows)
     ∙ ap (λ (x : List RawColumn). record { maximise = b.maximise; objective = b.objective; rows = b.rows; columns = x })
     (one_list default lines (columns_of (under Columns lines)) a.columns b.columns h.columns g.columns)
 

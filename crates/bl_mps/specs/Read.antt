@@ -15,8 +15,10 @@ IsRead default text (Err Memory) = Unit {0}
 
 -- A text says a model or has a first fault, and not both, and it says one model at most.
 pub record OneReading (default : ℤ) (text : List ℕ) : Type 0 where
-  pub either : ((mps : RawMps) × Reads default text mps) ⊎ ((fault : MpsFault) × (first_fault default text ≡ Some fault))
-  pub never_both : (mps : RawMps) (fault : MpsFault) → Reads default text mps → first_fault default text ≡ Some fault → ⊥
+  pub either : ((mps : RawMps) × Reads default text mps)
+      ⊎ ((fault : MpsFault) × (first_fault default text ≡ Some fault))
+  pub never_both : (mps : RawMps) (fault : MpsFault) → Reads default text mps → first_fault default text ≡ Some fault
+      → ⊥
   pub one : (a b : RawMps) → Reads default text a → Reads default text b → a ≡ b
 
 abbrev pub HasOneReading : Type 0

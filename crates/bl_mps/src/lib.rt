@@ -7,6 +7,8 @@
 
 pub mod laws;
 mod read;
+#[cfg(test)]
+mod tests;
 
 pub use bl_mps_read::MpsError;
 pub use bl_mps_terms::{MpsFault, MpsRule};

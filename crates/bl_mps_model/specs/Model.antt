@@ -24,7 +24,8 @@ use Rattle.bl_mps_model.specs.Whole.{upper_in, bounds_faults}
 
 abbrev pub raw_row : List Bytes → List (Option ℤ) → List (Option ℤ) → BoundedRow → RawRow
 raw_row names right_sides ranges row =
-    row_with (slice_index_or names row.place []) row.kind (slice_index_or right_sides row.place None) (slice_index_or ranges row.place None)
+    row_with (slice_index_or names row.place []) row.kind (slice_index_or right_sides row.place None)
+    (slice_index_or ranges row.place None)
 
 abbrev pub raw_rows : RowList → List (Option ℤ) → List (Option ℤ) → List RawRow
 raw_rows rows right_sides ranges = map (raw_row rows.names right_sides ranges) rows.bounded
@@ -56,7 +57,8 @@ raw_column default rows name numbers bounds = record {
 
 abbrev pub column_at : ℤ → ℕ → ColumnList → ℕ → RawColumn
 column_at default rows columns place =
-    raw_column default rows (slice_index_or columns.names place []) (slice_index_or columns.numbers place []) (slice_index_or columns.bounds place (no_bounds false))
+    raw_column default rows (slice_index_or columns.names place []) (slice_index_or columns.numbers place [])
+    (slice_index_or columns.bounds place (no_bounds false))
 
 abbrev pub raw_columns : ℤ → ℕ → ColumnList → List RawColumn
 raw_columns default rows columns = map (column_at default rows columns) (range_with_len 0 (length columns.names))

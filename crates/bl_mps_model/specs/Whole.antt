@@ -23,4 +23,5 @@ bounds_fault default bounds = first_of (
 -- the fault of the first column that has one, counted from `from`
 unfoldable pub bounds_faults : ℤ → ℕ → List Bounds → Option MpsFault
 bounds_faults default from [] = None
-bounds_faults default from (bounds ∷ more) = or_else (option_map (in_column from) (bounds_fault default bounds)) (bounds_faults default (from + 1) more)
+bounds_faults default from (bounds ∷ more) =
+    or_else (option_map (in_column from) (bounds_fault default bounds)) (bounds_faults default (from + 1) more)

@@ -34,11 +34,7 @@ pub fn raw_entries(
 }
 
 /// Adds the coefficient of a row, where it isn't 0.
-fn add_entry(
-    entries: &mut Vec<(u32, i64)>,
-    numbers: &[i64],
-    row: usize,
-) -> Result<(), AllocError>
+fn add_entry(entries: &mut Vec<(u32, i64)>, numbers: &[i64], row: usize) -> Result<(), AllocError>
     requires row { row ≤ MAX_TEXT_ROWS }
     requires small { All IsSmall numbers.now }
     requires old { AreEntries row entries.old.items }

@@ -60,7 +60,8 @@ fn raw_columns(
     requires rows { rows ≤ MAX_TEXT_ROWS }
     requires tidy { AreColumns (columns_view columns.now) }
     requires small_default { unsigned_abs default ≤ MAX_NUMBER }
-    requires faultless { (k : ℕ) → k < length columns.now.bounds.items → bounds_fault default (slice_index_or columns.now.bounds.items k (no_bounds false)) ≡ None }
+    requires faultless { (k : ℕ) → k < length columns.now.bounds.items
+        → bounds_fault default (slice_index_or columns.now.bounds.items k (no_bounds false)) ≡ None }
     ensures exact { IfOk result (λ raw. raw ≡ raw_columns default rows (columns_view columns.now)) }
     ensures count { IfOk result (λ raw. length raw ≡ length columns.now.names) }
     ensures limits { IfOk result (All (IsColumn rows)) }

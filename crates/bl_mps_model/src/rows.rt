@@ -70,12 +70,7 @@ fn raw_row(
     ensures limits { IfOk result IsRow }
 {
     let name = name_of(alloc, rows.names.at(row.place))?;
-    Ok(row_with(
-        name,
-        row.kind,
-        right_sides[row.place],
-        ranges[row.place],
-    ))
+    Ok(row_with(name, row.kind, right_sides[row.place], ranges[row.place]))
 }
 
 /// The rows of the model, which are no N rows.

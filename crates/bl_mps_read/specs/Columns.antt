@@ -45,14 +45,16 @@ begun_at None rows columns name =
       inside = columns.inside;
     })
     else Err rules.TooMany
-begun_at (Some place) rows columns name = if place + 1 == length columns.names then Ok columns else Err rules.DuplicateColumn
+begun_at (Some place) rows columns name =
+    if place + 1 == length columns.names then Ok columns else Err rules.DuplicateColumn
 
 unfoldable pub begun : RowList → ColumnList → Bytes → Result ColumnList MpsRule
 begun rows columns name = begun_at (position (bytes_eq name) columns.names) rows columns name
 
 -- the marks with that of a column at a row, which has none of it yet
 abbrev pub marked : List ℕ → ℕ → ℕ → Result (List ℕ) MpsRule
-marked marks row column = if slice_index marks row == column then Err rules.DuplicateEntry else Ok (slice_set marks row column)
+marked marks row column =
+    if slice_index marks row == column then Err rules.DuplicateEntry else Ok (slice_set marks row column)
 
 -- the numbers with this one at a slot of the last column
 abbrev pub number_set : List (List ℤ) → Option ℕ → ℤ → List (List ℤ)
@@ -75,7 +77,8 @@ coefficient_given rows columns pair = do
 -- whether the columns behind a marker line are integer
 abbrev pub marker_word : Bytes → Result Bool MpsRule
 marker_word word =
-    if bytes_eq word (codes "'INTORG'") then Ok true else (if bytes_eq word (codes "'INTEND'") then Ok false else Err rules.BadFields)
+    if bytes_eq word (codes "'INTORG'") then Ok true else
+    (if bytes_eq word (codes "'INTEND'") then Ok false else Err rules.BadFields)
 
 abbrev pub marker_read : List Bytes → Result Bool MpsRule
 marker_read [] = Err rules.BadFields
@@ -85,5 +88,13 @@ marker_read (name ∷ line) = ok_or (pair_in line) rules.BadFields >>= λ pair. 
 unfoldable pub column_added : RowList → ColumnList → List Bytes → Result ColumnList MpsRule
 column_added rows columns line =
     if is_marker line
-    then (marker_read line >>= λ inside. Ok (record { names = columns.names; numbers = columns.numbers; bounds = columns.bounds; marks = columns.marks; inside = inside }))
-    else (ok_or (entry_in line) rules.BadFields >>= λ entry. begun rows columns entry.name >>= λ columns. taken_up (coefficient_given rows) columns entry.pairs)
+    then (marker_read line >>= λ inside. Ok
+    (record {
+      names = columns.names;
+      numbers = columns.numbers;
+      bounds = columns.bounds;
+      marks = columns.marks;
+      inside = inside;
+    }))
+    else (ok_or (entry_in line) rules.BadFields >>= λ entry. begun rows columns entry.name >>= λ columns. taken_up
+    (coefficient_given rows) columns entry.pairs)

@@ -23,7 +23,8 @@ pair_read names most pair = do
 -- the numbers with one more at a place where none stood
 abbrev pub entered : List (Option ℤ) → ℕ → ℤ → Result (List (Option ℤ)) MpsRule
 entered numbers place number =
-    if is_some (slice_index_or numbers place None) then Err rules.DuplicateEntry else Ok (slice_set numbers place (Some number))
+    if is_some (slice_index_or numbers place None) then Err rules.DuplicateEntry else Ok
+    (slice_set numbers place (Some number))
 
 -- each number is of at most this magnitude
 abbrev pub AreWithin : ℕ → List (Option ℤ) → Type 0

@@ -30,7 +30,14 @@ pub record State : Type 0 where
   pub ranges : List (Option ℤ)
 
 abbrev pub no_state : State
-no_state = record { sections = no_sections; sense = None; rows = no_rows; columns = no_columns; right_sides = []; ranges = [] }
+no_state = record {
+  sections = no_sections;
+  sense = None;
+  rows = no_rows;
+  columns = no_columns;
+  right_sides = [];
+  ranges = [];
+}
 
 -- there is a place for each row and for each column, and the numbers are within their limits
 pub record IsTidy (state : State) : Type 0 where
@@ -70,10 +77,18 @@ heading_read state (name ∷ rest) = ok_or (section_named name) rules.BadSection
 
 abbrev pub sense_read : Option Bool → List Bytes → Result (Option Bool) MpsRule
 sense_read sense line = ok_or (only_in line) rules.BadFields >>= λ word.
-    if is_some sense then Err rules.BadObjSense else (ok_or (maximises word) rules.BadObjSense >>= λ sense. Ok (Some sense))
+    if is_some sense then Err rules.BadObjSense else
+    (ok_or (maximises word) rules.BadObjSense >>= λ sense. Ok (Some sense))
 
 abbrev pub with_mark : ColumnList → ColumnList
-with_mark columns = record { names = columns.names; numbers = columns.numbers; bounds = columns.bounds; marks = columns.marks ++ 0 ∷ []; inside = columns.inside }
+with_mark columns = record {
+  names = columns.names;
+  numbers = columns.numbers;
+  bounds = columns.bounds;
+  marks =
+      columns.marks ++ 0 ∷ [];
+  inside = columns.inside;
+}
 
 unfoldable pub row_read : State → List Bytes → Result State MpsRule
 row_read state line = row_added state.rows line >>= λ rows. Ok (record {
@@ -86,26 +101,71 @@ row_read state line = row_added state.rows line >>= λ rows. Ok (record {
 })
 
 abbrev pub with_sense : State → Option Bool → State
-with_sense state sense = record { sections = state.sections; sense = sense; rows = state.rows; columns = state.columns; right_sides = state.right_sides; ranges = state.ranges }
+with_sense state sense =
+    record {
+      sections = state.sections;
+      sense = sense;
+      rows = state.rows;
+      columns = state.columns;
+      right_sides =
+          state.right_sides;
+      ranges = state.ranges;
+    }
 
 abbrev pub with_columns : State → ColumnList → State
-with_columns state columns = record { sections = state.sections; sense = state.sense; rows = state.rows; columns = columns; right_sides = state.right_sides; ranges = state.ranges }
+with_columns state columns =
+    record {
+      sections = state.sections;
+      sense = state.sense;
+      rows = state.rows;
+      columns = columns;
+      right_sides =
+          state.right_sides;
+      ranges = state.ranges;
+    }
 
 abbrev pub with_right_sides : State → List (Option ℤ) → State
-with_right_sides state sides = record { sections = state.sections; sense = state.sense; rows = state.rows; columns = state.columns; right_sides = sides; ranges = state.ranges }
+with_right_sides state sides =
+    record {
+      sections = state.sections;
+      sense = state.sense;
+      rows = state.rows;
+      columns = state.columns;
+      right_sides =
+          sides;
+      ranges = state.ranges;
+    }
 
 abbrev pub with_ranges : State → List (Option ℤ) → State
-with_ranges state ranges = record { sections = state.sections; sense = state.sense; rows = state.rows; columns = state.columns; right_sides = state.right_sides; ranges = ranges }
+with_ranges state ranges =
+    record {
+      sections = state.sections;
+      sense = state.sense;
+      rows = state.rows;
+      columns = state.columns;
+      right_sides =
+          state.right_sides;
+      ranges = ranges;
+    }
 
 abbrev pub bounds_read : ColumnList → List Bytes → Result ColumnList MpsRule
 bounds_read columns line = bound_added columns.names columns.bounds line >>= λ bounds.
-    Ok (record { names = columns.names; numbers = columns.numbers; bounds = bounds; marks = columns.marks; inside = columns.inside })
+    Ok (record {
+      names = columns.names;
+      numbers = columns.numbers;
+      bounds = bounds;
+      marks = columns.marks;
+      inside =
+          columns.inside;
+    })
 
 abbrev pub data_in : Option Section → State → List Bytes → Result State MpsRule
 data_in (Some ObjSense) state line = sense_read state.sense line >>= λ sense. Ok (with_sense state sense)
 data_in (Some Rows) state line = row_read state line
-data_in (Some Columns) state line = column_added state.rows state.columns line >>= λ columns. Ok (with_columns state columns)
-data_in (Some RightSides) state line = right_sides_added state.rows state.right_sides line >>= λ sides. Ok (with_right_sides state sides)
+data_in (Some Columns) state line =
+    column_added state.rows state.columns line >>= λ columns. Ok (with_columns state columns)
+data_in (Some RightSides) state line =
+    right_sides_added state.rows state.right_sides line >>= λ sides. Ok (with_right_sides state sides)
 data_in (Some Ranges) state line = ranges_added state.rows state.ranges line >>= λ ranges. Ok (with_ranges state ranges)
 data_in (Some Bounds) state line = bounds_read state.columns line >>= λ columns. Ok (with_columns state columns)
 data_in (Some Name) state line = Err rules.BadSection
@@ -129,4 +189,5 @@ read_behind number (Ok state) next = if is_in End state.sections.present then Ok
 
 unfoldable pub text_read : ℕ → State → List Bytes → Result State MpsFault
 text_read number state [] = Err (at_line (number + 1) rules.NoEnd)
-text_read number state (line ∷ lines) = read_behind (number + 1) (line_read state line) (λ next. text_read (number + 1) next lines)
+text_read number state (line ∷ lines) =
+    read_behind (number + 1) (line_read state line) (λ next. text_read (number + 1) next lines)

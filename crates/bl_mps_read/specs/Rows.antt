@@ -40,8 +40,10 @@ abbrev pub row_pushed : RowList → Bytes → RowKind → Option ℕ → RowList
 row_pushed rows name kind slot = record {
   names = rows.names ++ name ∷ [];
   slots = rows.slots ++ slot ∷ [];
-  objective = if is_free kind then (if is_none rows.objective then Some (length rows.names) else rows.objective) else rows.objective;
-  bounded = if is_free kind then rows.bounded else rows.bounded ++ record { place = length rows.names; kind = kind } ∷ [];
+  objective = if is_free kind then
+      (if is_none rows.objective then Some (length rows.names) else rows.objective) else rows.objective;
+  bounded = if is_free kind then rows.bounded else rows.bounded ++ record { place = length rows.names; kind = kind }
+      ∷ [];
 }
 
 -- the name may be a new row's

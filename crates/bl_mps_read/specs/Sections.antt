@@ -5,7 +5,16 @@ use Rattle.bl_mps_terms.specs.declared.words.Section.TheVariants.{Name, ObjSense
 use Rattle.bl_mps_read.specs.declared.sections.Sections.{Sections}
 
 abbrev pub no_sections : Sections
-no_sections = record { present = None; sense = false; rows = false; columns = false; right_sides = false; ranges = false; bounds = false }
+no_sections = record {
+  present = None;
+  sense = false;
+  rows = false;
+  columns = false;
+  right_sides = false;
+  ranges =
+      false;
+  bounds = false;
+}
 
 abbrev pub next_may_be : Sections → Section → Bool
 next_may_be before Name = is_none before.present

@@ -19,4 +19,9 @@ abbrev pub entry_view : Entry → EntryFields
 entry_view entry = record { name = entry.name.now; pairs = pairs_view entry.pairs }
 
 abbrev pub bound_view : BoundLine → BoundFields
-bound_view line = record { kind = line.kind; column = line.column.now; number = option_map (λ number. number.now) line.number }
+bound_view line = record {
+  kind = line.kind;
+  column = line.column.now;
+  number =
+      option_map (λ number. number.now) line.number;
+}

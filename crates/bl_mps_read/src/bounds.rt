@@ -114,9 +114,7 @@ pub fn add_bound(names: &NameTable, bounds: &mut [Bounds], line: &[u8]) -> Resul
     ensures added { Makes result bounds.new (bound_added names.now bounds.old (fields_of line.now)) }
 {
     let bound = bound_line(line).ok_or(MpsRule::BadFields)?;
-    let place = names
-        .place_of(bound.column)
-        .ok_or(MpsRule::UnknownColumn)?;
+    let place = names.place_of(bound.column).ok_or(MpsRule::UnknownColumn)?;
     let number = read_bound(bound.number)?;
     bounds[place] = bounds[place].with_line(bound.kind, number);
     Ok(())

@@ -51,16 +51,12 @@ pub fn no_columns(alloc: Global) -> Columns
 
 /// Makes the column the last: it begins where it isn't there yet.
 #[tactic(auto, unfolding(crate::specs::Columns::begun))]
-fn begin_column(
-    alloc: Global,
-    rows: &Rows,
-    columns: &mut Columns,
-    name: &[u8],
-) -> Result<(), Stop>
+fn begin_column(alloc: Global, rows: &Rows, columns: &mut Columns, name: &[u8]) -> Result<(), Stop>
     requires rows { AreRows (rows_view rows.now) }
     requires columns { AreColumns (columns_view columns.old) }
     ensures columns { OnOk result (AreColumns (columns_view columns.new)) }
-    ensures begun { Leaves result (columns_view columns.new) (begun (rows_view rows.now) (columns_view columns.old) name.now) }
+    ensures begun { Leaves result (columns_view columns.new)
+        (begun (rows_view rows.now) (columns_view columns.old) name.now) }
     ensures marks { columns.new.marks ≡ columns.old.marks }
 {
     match columns.names.place_of(name) {
@@ -115,7 +111,8 @@ fn give_coefficient(rows: &Rows, columns: &mut Columns, pair: Pair<'_>) -> Resul
     requires marks { vec_len columns.old.marks ≡ length rows.now.names }
     requires rows { AreRows (rows_view rows.now) }
     requires columns { AreColumns (columns_view columns.old) }
-    ensures given { Makes result (columns_view columns.new) (coefficient_given (rows_view rows.now) (columns_view columns.old) (pair_view pair.entry)) }
+    ensures given { Makes result (columns_view columns.new)
+        (coefficient_given (rows_view rows.now) (columns_view columns.old) (pair_view pair.entry)) }
     ensures columns { OnOk result (AreColumns (columns_view columns.new)) }
     ensures marks { vec_len columns.new.marks ≡ vec_len columns.old.marks }
 {
@@ -184,7 +181,8 @@ pub fn add_column_line(
     requires columns { AreColumns (columns_view columns.old) }
     ensures columns { OnOk result (AreColumns (columns_view columns.new)) }
     ensures marks { OnOk result (vec_len columns.new.marks ≡ vec_len columns.old.marks) }
-    ensures added { Leaves result (columns_view columns.new) (column_added (rows_view rows.now) (columns_view columns.old) (fields_of line.now)) }
+    ensures added { Leaves result (columns_view columns.new)
+        (column_added (rows_view rows.now) (columns_view columns.old) (fields_of line.now)) }
 {
     if is_marker(line) {
         columns.inside = read_marker(line)?;

@@ -1,7 +1,7 @@
 //! Numbers, and numbers beside the names of rows.
 ghost use Rattle.std.specs.Prelude.{◌≡◌, ◌≤◌, ◌<◌, ℕ, ◌++◌, ◌∷◌, [], length, OnOk, IfOk, IfSome, None, unsigned_abs};
 ghost use Rattle.bl_limits.specs.declared.TheConstants.{MAX_NUMBER, MAX_TEXT_RHS};
-ghost use Rattle.bl_mps_terms.specs.Rules.{number_within};
+ghost use Rattle.bl_mps_terms.specs.Rules.{rule_of, number_within};
 ghost use Rattle.bl_mps_read.specs.Numbers.{pair_read, entered, bound_option, AreWithin};
 ghost use Rattle.bl_mps_read.specs.Stops.{Makes};
 ghost use Rattle.bl_mps_read.specs.Views.{pair_view};
@@ -14,6 +14,17 @@ use bl_num::{NumFault, read_whole};
 use std::alloc::{AllocError, Global};
 use std::marker::Model;
 
+/// The rule that a text breaks which isn't a number, or a whole one, or one that is read.
+fn rule_of(fault: NumFault) -> MpsRule
+    ensures { result ≡ rule_of fault }
+{
+    match fault {
+        NumFault::NotNumber => MpsRule::BadNumber,
+        NumFault::NotWhole => MpsRule::NotWhole,
+        NumFault::TooLarge { .. } => MpsRule::TooLarge,
+    }
+}
+
 /// The number that a field writes, of magnitude at most `most`.
 pub fn number_within(most: u64, text: &[u8]) -> Result<i64, MpsRule>
     requires { most ≤ MAX_TEXT_RHS }
@@ -22,9 +33,8 @@ pub fn number_within(most: u64, text: &[u8]) -> Result<i64, MpsRule>
 {
     match read_whole(text) {
         Ok(number) if number.unsigned_abs() <= most as u128 => Ok(number as i64),
-        Ok(_) | Err(NumFault::TooLarge { .. }) => Err(MpsRule::TooLarge),
-        Err(NumFault::NotNumber) => Err(MpsRule::BadNumber),
-        Err(NumFault::NotWhole) => Err(MpsRule::NotWhole),
+        Ok(_) => Err(MpsRule::TooLarge),
+        Err(fault) => Err(rule_of(fault)),
     }
 }
 
@@ -38,8 +48,7 @@ pub fn bound_within(text: &[u8]) -> Result<Option<i64>, MpsRule>
         Ok(number) if number.unsigned_abs() <= MAX_NUMBER as u128 => Ok(Some(number as i64)),
         Ok(_) => Err(MpsRule::TooLarge),
         Err(NumFault::TooLarge { .. }) => Ok(None),
-        Err(NumFault::NotNumber) => Err(MpsRule::BadNumber),
-        Err(NumFault::NotWhole) => Err(MpsRule::NotWhole),
+        Err(other) => Err(rule_of(other)),
     }
 }
 

@@ -47,7 +47,8 @@ fn give_ranges(rows: &Rows, ranges: &mut Numbers, pairs: Pairs<'_>) -> Result<()
     requires { length ranges.old ≡ length rows.now.names }
     ensures places { length ranges.new ≡ length ranges.old }
     ensures small { AreWithin MAX_TEXT_RHS ranges.old → AreWithin MAX_TEXT_RHS ranges.new }
-    ensures given { Makes result ranges.new (taken_up (range_given (rows_view rows.now)) ranges.old (pairs_view pairs.entry)) }
+    ensures given { Makes result ranges.new
+        (taken_up (range_given (rows_view rows.now)) ranges.old (pairs_view pairs.entry)) }
 {
     give_range(rows, ranges, pairs.pair)?;
     match pairs.more {
@@ -61,7 +62,8 @@ fn give_right_sides(rows: &Rows, sides: &mut Numbers, pairs: Pairs<'_>) -> Resul
     requires { length sides.old ≡ length rows.now.names }
     ensures places { length sides.new ≡ length sides.old }
     ensures small { AreWithin MAX_TEXT_RHS sides.old → AreWithin MAX_TEXT_RHS sides.new }
-    ensures given { Makes result sides.new (taken_up (right_side_given (rows_view rows.now)) sides.old (pairs_view pairs.entry)) }
+    ensures given { Makes result sides.new
+        (taken_up (right_side_given (rows_view rows.now)) sides.old (pairs_view pairs.entry)) }
 {
     give_right_side(rows, sides, pairs.pair)?;
     match pairs.more {

@@ -1,4 +1,5 @@
--- The first fault of an MPS text: the first line that breaks a rule, given the lines before it, and there the first rule;
+-- The first fault of an MPS text: the first line that breaks a rule, given the lines before it, and there the first
+-- rule;
 -- then the faults of the whole. Trusted.
 use Rattle.std.specs.Prelude.{ℕ, ◌+◌, Bool, not, ◌&&◌, ◌||◌, ◌==◌, nat_lt, List, [], ◌∷◌, ◌++◌, Option, Some, None, ℤ, length, is_some, is_none, if◌then◌else◌}
 use Rattle.std.specs.Option.{option_map}
@@ -17,7 +18,8 @@ use Rattle.bl_mps_terms.specs.Lines.{objective_of, sense_fault, row_fault, colum
 
 -- ---- one line
 
--- NAME, OBJSENSE, ROWS and COLUMNS stand in this order, each once, and the first two may lack; then RHS, RANGES and BOUNDS
+-- NAME, OBJSENSE, ROWS and COLUMNS stand in this order, each once, and the first two may lack; then RHS, RANGES and
+-- BOUNDS
 -- in any order, each at most once; then ENDATA.
 abbrev pub may_begin : List Section → Section → Bool
 may_begin before Name = length before == 0
@@ -31,7 +33,8 @@ may_begin before End = has Columns before
 
 -- a section line of OBJSENSE has no second field, or a word for the leader's sense there
 abbrev pub has_good_sense : Section → List Bytes → Bool
-has_good_sense section line = not (is_in ObjSense (Some section)) || (nat_lt (length line) 2 || is_some (maximises (field 1 line)))
+has_good_sense section line =
+    not (is_in ObjSense (Some section)) || (nat_lt (length line) 2 || is_some (maximises (field 1 line)))
 
 abbrev pub section_fault : List Section → Option Section → List Bytes → Option MpsRule
 section_fault before None line = Some rules.BadSection

@@ -86,7 +86,8 @@ columns_of lines = fold appended [] (map (field 0) (column_lines lines))
 
 -- the pairs on the lines of one column
 abbrev pub pairs_on : Bytes → List (List Bytes) → List (Bytes × Bytes)
-pairs_on column lines = flat_map (λ line. pairs_from (drop 1 line)) (filter (λ line. bytes_eq column (field 0 line)) (column_lines lines))
+pairs_on column lines =
+    flat_map (λ line. pairs_from (drop 1 line)) (filter (λ line. bytes_eq column (field 0 line)) (column_lines lines))
 
 -- Behind these columns this one may not stand: it ended before the last began, or there is no room for it.
 abbrev pub name_fault : List Bytes → Bytes → Option MpsRule
@@ -102,8 +103,9 @@ abbrev pub column_fault : List (List Bytes) → List (List Bytes) → List Bytes
 column_fault rows before line =
     if is_marker line then marker_fault line
     else first_of (
-        unless (length line == 3 || length line == 5) rules.BadFields ∷ name_fault (columns_of before) (field 0 line)
-        ∷ pairs_fault (row_names rows) MAX_NUMBER None (names_in (pairs_on (field 0 line) before)) (pairs_from (drop 1 line)) ∷ [])
+    unless (length line == 3 || length line == 5) rules.BadFields ∷ name_fault (columns_of before) (field 0 line)
+    ∷ pairs_fault (row_names rows) MAX_NUMBER None (names_in (pairs_on (field 0 line) before))
+    (pairs_from (drop 1 line)) ∷ [])
 
 -- whether a column is integer by the marker lines before its first line
 abbrev pub is_marked_from : Bytes → Bool → List (List Bytes) → Bool
@@ -215,7 +217,8 @@ pub record BoundLine : Type 0 where
 -- the parts of a line of this kind behind its first field; none where it has a wrong number of fields
 abbrev pub bound_behind : BoundKind → Bool → List Bytes → Option BoundLine
 bound_behind kind true (column ∷ number ∷ []) = Some (record { kind = kind; column = column; number = Some number })
-bound_behind kind true (set ∷ column ∷ number ∷ []) = Some (record { kind = kind; column = column; number = Some number })
+bound_behind kind true (set ∷ column ∷ number ∷ []) =
+    Some (record { kind = kind; column = column; number = Some number })
 bound_behind kind true fields = None
 bound_behind kind false (column ∷ []) = Some (record { kind = kind; column = column; number = None })
 bound_behind kind false (set ∷ column ∷ []) = Some (record { kind = kind; column = column; number = None })
@@ -256,7 +259,8 @@ abbrev pub last_set : {A : Type 0} → A → List (Option A) → A
 last_set first [] = first
 last_set first (set ∷ sets) = last_set (unwrap_or set first) sets
 
--- The last line that sets a side counts. A column that some line names has the lower bound 0 and no upper bound where no
+-- The last line that sets a side counts. A column that some line names has the lower bound 0 and no upper bound where
+-- no
 -- line sets them.
 abbrev pub lower_of : List BoundLine → Option ℤ
 lower_of lines = last_set (Some (pos 0)) (map (λ bound. lower_set bound.kind (number_given bound)) lines)
@@ -264,7 +268,8 @@ lower_of lines = last_set (Some (pos 0)) (map (λ bound. lower_set bound.kind (n
 -- One that no line names has the default upper bound.
 abbrev pub upper_of : ℤ → List BoundLine → Option ℤ
 upper_of default [] = Some default
-upper_of default (bound ∷ lines) = last_set None (map (λ bound. upper_set bound.kind (number_given bound)) (bound ∷ lines))
+upper_of default (bound ∷ lines) =
+    last_set None (map (λ bound. upper_set bound.kind (number_given bound)) (bound ∷ lines))
 
 -- ---- whole columns
 
@@ -273,11 +278,13 @@ is_above None upper = false
 is_above (Some lower) None = false
 is_above (Some lower) (Some upper) = int_lt upper lower
 
--- The faults of a column with these lines of bounds. An upper bound is negative only by `UP` or `UI`, where no line sets
+-- The faults of a column with these lines of bounds. An upper bound is negative only by `UP` or `UI`, where no line
+-- sets
 -- the lower bound.
 abbrev pub whole_fault : ℤ → Bool → List BoundLine → Option MpsRule
 whole_fault default marked lines = first_of (
     unless (marked || list_any (λ bound. makes_integer bound.kind) lines) rules.Continuous
     ∷ unless (is_some (lower_of lines) && is_some (upper_of default lines)) rules.Unbounded
-    ∷ when (is_above (Some (pos 0)) (upper_of default lines) && not (list_any (λ bound. sets_lower bound.kind) lines)) rules.NegativeUpper
+    ∷ when (is_above (Some (pos 0)) (upper_of default lines) && not (list_any (λ bound. sets_lower bound.kind) lines))
+    rules.NegativeUpper
     ∷ when (is_above (lower_of lines) (upper_of default lines)) rules.EmptyBounds ∷ [])

@@ -50,11 +50,19 @@ kind_of_row line = unwrap_or (row_kind (field 0 line)) rows.Free
 
 -- a row with a right-hand side and perhaps a range
 abbrev pub row_with : Bytes → RowKind → Option ℤ → Option ℤ → RawRow
-row_with name kind rhs range = record { name = name; lo = lhs_of kind (unwrap_or rhs (pos 0)) range; hi = rhs_of kind (unwrap_or rhs (pos 0)) range }
+row_with name kind rhs range =
+    record {
+      name = name;
+      lo = lhs_of kind (unwrap_or rhs (pos 0)) range;
+      hi =
+          rhs_of kind (unwrap_or rhs (pos 0)) range;
+    }
 
 -- the row of a line under ROWS, with these pairs under RHS and RANGES
 abbrev pub row_of : List (Bytes × Bytes) → List (Bytes × Bytes) → List Bytes → RawRow
-row_of right_sides ranges line = row_with (field 1 line) (kind_of_row line) (number_after (field 1 line) right_sides) (number_after (field 1 line) ranges)
+row_of right_sides ranges line =
+    row_with (field 1 line) (kind_of_row line) (number_after (field 1 line) right_sides)
+    (number_after (field 1 line) ranges)
 
 -- ---- columns
 
@@ -71,8 +79,11 @@ pub record IsColumnOf (default : ℤ) (lines : List Bytes) (name : Bytes) (colum
   pub named : column.name ≡ name
   pub lower : Some column.lo ≡ lower_of (bounds_on name (under Bounds lines))
   pub upper : Some column.hi ≡ upper_of default (bounds_on name (under Bounds lines))
-  pub cost : Some column.cost ≡ option_map (coefficient (pairs_on name (under Columns lines))) (objective_of (under Rows lines))
-  pub entries : column.entries ≡ nonzero_of (map (coefficient (pairs_on name (under Columns lines))) (row_names (bounded_rows (under Rows lines))))
+  pub cost : Some column.cost
+      ≡ option_map (coefficient (pairs_on name (under Columns lines))) (objective_of (under Rows lines))
+  pub entries : column.entries
+      ≡ nonzero_of (map (coefficient (pairs_on name (under Columns lines)))
+      (row_names (bounded_rows (under Rows lines))))
 
 -- ---- the whole text
 
@@ -84,7 +95,9 @@ is_maximum word = unwrap_or (maximises word) false
 pub record Says (default : ℤ) (lines : List Bytes) (mps : RawMps) : Type 0 where
   pub sense : mps.maximise ≡ list_any is_maximum (senses_of lines)
   pub objective : Some mps.objective ≡ objective_of (under Rows lines)
-  pub rows : mps.rows ≡ map (row_of (flat_map pairs_of_set (under RightSides lines)) (flat_map pairs_of_set (under Ranges lines))) (bounded_rows (under Rows lines))
+  pub rows : mps.rows ≡ map
+      (row_of (flat_map pairs_of_set (under RightSides lines)) (flat_map pairs_of_set (under Ranges lines)))
+      (bounded_rows (under Rows lines))
   pub columns : AllZip (IsColumnOf default lines) (columns_of (under Columns lines)) mps.columns
 
 -- The text has no fault, and says this.

@@ -78,7 +78,8 @@ data_at section present line = if is_data line && is_in section present then fie
 
 unfoldable pub data_from : Section → Option Section → List Bytes → List (List Bytes)
 data_from section present [] = []
-data_from section present (line ∷ lines) = data_at section present line ++ data_from section (section_behind present line) lines
+data_from section present (line ∷ lines) =
+    data_at section present line ++ data_from section (section_behind present line) lines
 
 -- the data lines under a section, each as its fields
 abbrev pub under : Section → List Bytes → List (List Bytes)

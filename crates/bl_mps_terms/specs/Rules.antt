@@ -76,7 +76,8 @@ has_constant objective pair = option_map_or (bytes_eq pair.0) objective false &&
 abbrev pub pair_fault : List Bytes → ℕ → Option Bytes → List Bytes → Bytes × Bytes → Option MpsRule
 pair_fault rows most objective given pair = first_of (
     unless (is_named rows pair.0) rules.UnknownRow ∷ number_fault most pair.1
-    ∷ when (is_named given pair.0) rules.DuplicateEntry ∷ when (has_constant objective pair) rules.ObjectiveConstant ∷ [])
+    ∷ when (is_named given pair.0) rules.DuplicateEntry ∷ when (has_constant objective pair) rules.ObjectiveConstant
+    ∷ [])
 
 unfoldable pub pairs_fault : List Bytes → ℕ → Option Bytes → List Bytes → List (Bytes × Bytes) → Option MpsRule
 pairs_fault rows most objective given [] = None

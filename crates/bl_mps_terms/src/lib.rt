@@ -7,4 +7,6 @@ mod fault;
 mod words;
 
 pub use fault::{MpsFault, MpsRule};
-pub use words::{BoundKind, RowKind, Section, bound_kind, is_word, maximises, row_kind, section_named};
+pub use words::{
+    BoundKind, RowKind, Section, bound_kind, is_word, maximises, row_kind, section_named,
+};

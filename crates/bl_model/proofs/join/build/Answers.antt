@@ -1,21 +1,22 @@
 use Rattle.std.proofs.Common.{◌≡◌, ◌∙◌, ap, sym, length, map, List, subst, rules}
-use Rattle.std.specs.Prelude.{pos}
-use Rattle.std.specs.List.{range_with_len}
+use Rattle.std.specs.Prelude.{◌*ℤ◌}
+use Rattle.std.specs.List.{All, range_with_len}
 use Rattle.std.proofs.lemmas.Int.{to_z-of_z}
 use Rattle.std.specs.Int.{w64}
 use mir.Val.{to_z, of_z, SFits}
 use Rattle.bl_terms.specs.Points.{is_among}
 use Rattle.bl_terms.specs.Programs.{Row, is_linking, places_where}
+use Rattle.bl_raw.specs.Raw.{IsSmall}
 use Rattle.bl_raw.specs.declared.raw.RawColumn.{RawColumn}
 use Rattle.bl_raw.specs.declared.raw.RawRow.{RawRow}
-use Rattle.bl_model.specs.Build.{rows_from, number_for, follower_numbers, program_of}
+use Rattle.bl_model.specs.Build.{rows_from, number_for, follower_numbers, leader_sense_of, program_of}
 use Rattle.bl_model.specs.View.{IsModel}
 use Rattle.bl_model.proofs.JoinLemmas.{program_made}
 use Rattle.bl_model.proofs.ProgramLemmas.{program_sound, program_limits}
 use Rattle.bl_model.proofs.join.build.Goals as goal
 
 -- the fields are those of the program
-made : (c : goal.After-result-2-1) → record {
+made : (c : goal.After-leader_sense) → record {
   lo = c.in_ok-lows.field-0.items;
   hi = c.in_ok-highs.field-0.items;
   rows = c.in_ok-rows.rows.items;
@@ -24,7 +25,7 @@ made : (c : goal.After-result-2-1) → record {
   follower = c.in_ok-follower_places.field-0.items;
   links = c.in_ok-links.links.items;
   sense = to_z w64 (of_z w64 c.args.aux.now.sense);
-  leader_sense = pos 1;
+  leader_sense = to_z w64 (of_z w64 c.leader_sense.result);
 } ≡ program_of c.args.mps.now c.args.aux.now
 made c =
     let mps = c.args.mps.now in
@@ -40,6 +41,7 @@ made c =
       follower = c.in_ok-follower_places.field-0.items;
       links = c.in_ok-links.links.items;
       sense = to_z w64 (of_z w64 aux.sense);
+      leader_sense = to_z w64 (of_z w64 c.leader_sense.result);
     })
     (record {
       lo = c.in_ok-lows.ensures ∙ ap (map (λ (r : RawColumn). r.lo)) columns-are;
@@ -51,7 +53,7 @@ made c =
           ∙ ap (λ (lower : List _). rows_from mps.columns lower 0 c.as_slice-text_rows.result.now)
           c.as_slice-lower_rows.ensures
           ∙ ap (λ (rows : List RawRow). rows_from mps.columns aux.rows 0 rows) c.as_slice-text_rows.ensures;
-      cost = c.in_ok-costs.ensures ∙ ap (map (λ (r : RawColumn). r.cost)) columns-are;
+      cost = c.in_ok-costs.ensures ∙ ap (map (λ (r : RawColumn). r.cost *ℤ leader_sense_of mps.maximise)) columns-are;
       follower_cost = c.in_ok-follower_costs.ensures
           ∙ ap (λ (n : _). map (number_for (follower_numbers aux)) (range_with_len 0 n)) count-is;
       follower =
@@ -67,6 +69,9 @@ made c =
           c.deref.ensures.value
           ∙ ap (places_where (is_linking aux.columns c.in_ok-rows.rows.items)) count-is;
       sense = let fits : SFits w64 aux.sense = search rules in to_z-of_z w64 aux.sense fits;
+      leader_sense =
+          let fits : SFits w64 c.leader_sense.result = search rules in
+          to_z-of_z w64 c.leader_sense.result fits ∙ c.leader_sense.ensures.value;
     })
 
 pub invariant_of-result : goal.invariant_of-result
@@ -80,3 +85,6 @@ invariant_of-result c =
 
 pub returns : goal.returns
 returns c = made c
+
+pub costs-requires : goal.costs-requires
+costs-requires c = subst (All (λ r. IsSmall r.cost)) (sym c.as_slice-columns.ensures) (λ k d lt. (c.requires.mps.columns k d lt).cost)

@@ -4,4 +4,5 @@ use Rattle.bl_mps_read.proofs.NameLists.{position-map}
 use Rattle.bl_mps_read.proofs.names.NameTable.place_of.Goals as goal
 
 pub returns : goal.returns
-returns c = rw (← c.self.view_is) (c.get_index_of.ensures.index ∙ sym (position-map (bytes_eq c.args.name.now) _ c.self.inside.names.keys))
+returns c = rw (← c.self.view_is)
+    (c.get_index_of.ensures.index ∙ sym (position-map (bytes_eq c.args.name.now) _ c.self.inside.names.keys))
