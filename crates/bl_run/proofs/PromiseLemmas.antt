@@ -18,7 +18,7 @@ use Rattle.bl_terms.specs.Trees.{point_count}
 use Rattle.bl_run.specs.declared.status.Answer.{Answer}
 use Rattle.bl_run.specs.declared.status.Answer.TheVariants as answer
 use Rattle.bl_run.specs.Words.{SolveWords, AreSolveWords, AreRefused}
-use Rattle.bl_run.specs.Texts.{IsMpsText, IsMpsFault, IsAuxText, IsAuxFault, IsNotYet, sizes, aux_rule, line_place, mps_rule, mps_place}
+use Rattle.bl_run.specs.Texts.{IsMpsText, IsMpsFault, IsAuxText, IsAuxFault, IsNotYet, sizes, mps_rule, mps_place, aux_rule, line_place}
 use Rattle.bl_run.specs.Endings.{Place, AsWhole, Ending, Done, NoPoint, BadWords, BadText, NodesSpent, FollowerSpent, ReadFault, WriteFault, OutOfMemory, NotAccepted, Missing, ManyPoints, ToFile, ToOutput, status_of, line_of}
 use Rattle.bl_run.specs.Solve.{Run, program, HasMps, HasAux, ReadsBoth, ReadsMps, RefusesMps, RefusesAux, RefusesBox, RefusesText, IsMissing}
 use Rattle.bl_run.specs.Promise.{Outside, HasCause, ComesFirst, EndsInAnswer, IsDue, Tells, Promise}
@@ -39,13 +39,19 @@ one_command words a b these those =
     let same = says_once Solve words a.mps b.mps a.aux b.aux a.default_upper b.default_upper these those in
     same_words a b same.0 same.1 same.2
 
--- an MPS text is refused in one way
+-- a text says one model
+one_model : (default : ℤ) (text : List ℕ) (a b : RawMps)
+    → IsMpsText default text a → IsMpsText default text b → a ≡ b
+one_model default text a b these those = (has_one_reading default text).one a b these those
+
+-- and is refused in one way
+some_fault : (f g : MpsFault) → Some f ≡ Some g → f ≡ g
+some_fault f g e = cc
+
 mps_once : (default : ℤ) (text : List ℕ) (place place' : Place) (rule rule' : List ℕ)
     → IsMpsFault default text place rule → IsMpsFault default text place' rule' → (place ≡ place') × (rule ≡ rule')
 mps_once default text place place' rule rule' h k =
-    let first = h.first in
-    let second = k.first in
-    let same : h.fault ≡ k.fault = cc in (
+    let same = some_fault h.fault k.fault (sym h.first ∙ k.first) in (
       h.at ∙ ap mps_place same ∙ sym k.at,
       h.by_rule ∙ ap (λ (f : MpsFault). mps_rule f.rule) same ∙ sym k.by_rule,
     )
@@ -94,30 +100,21 @@ module _ (files : Files) (run other : Run) (same : run.words ≡ other.words) wh
   same_default : run.words.default_upper ≡ other.words.default_upper
   same_default = ap (λ (w : SolveWords). w.default_upper) same
 
-  -- what one run's text says, of the other's
-  says_there : ReadsMps (Some files) run → HasMps (Some files) other
+  mps_says : ReadsMps (Some files) run → HasMps (Some files) other
       → IsMpsText other.words.default_upper other.mps_text run.mps
-  says_there h held =
+  mps_says h held =
       subst (λ (z : ℤ). IsMpsText z other.mps_text run.mps) same_default
       (subst (λ (text : List ℕ). IsMpsText run.words.default_upper text run.mps) (one_mps_text h.held held) h.says)
 
   one_mps : ReadsMps (Some files) run → ReadsMps (Some files) other → run.mps ≡ other.mps
   one_mps h k =
-      (has_one_reading other.words.default_upper other.mps_text).one run.mps other.mps (says_there h k.held) k.says
+      one_model other.words.default_upper other.mps_text run.mps other.mps (mps_says h k.held) k.says
 
   mps_unrefused : (file : List ℕ) (place : Place) (rule : List ℕ) → ReadsMps (Some files) run
       → RefusesMps (Some files) other file place rule → ⊥
   mps_unrefused file place rule h k =
       (has_one_reading other.words.default_upper other.mps_text).never_both run.mps k.fault.fault
-      (says_there h k.held) k.fault.first
-
-  -- the fault of one run's text, of the other's
-  fault_there : (place : Place) (rule : List ℕ) → HasMps (Some files) run → HasMps (Some files) other
-      → IsMpsFault run.words.default_upper run.mps_text place rule
-      → IsMpsFault other.words.default_upper other.mps_text place rule
-  fault_there place rule h k fault =
-      subst (λ (z : ℤ). IsMpsFault z other.mps_text place rule) same_default
-      (subst (λ (text : List ℕ). IsMpsFault run.words.default_upper text place rule) (one_mps_text h k) fault)
+      (mps_says h k.held) k.fault.first
 
   aux_unrefused : (file : List ℕ) (place : Place) (rule : List ℕ) → ReadsBoth (Some files) run
       → RefusesAux (Some files) other file place rule → ⊥
@@ -159,9 +156,11 @@ module _ (files : Files) (run other : Run) (same : run.words ≡ other.words) wh
     where
       mps_refused_read : RefusesMps (Some files) run file place rule → ReadsMps (Some files) other → ⊥
       mps_refused_read first read =
-          let moved = fault_there place rule first.held read.held first.fault in
-          (has_one_reading other.words.default_upper other.mps_text).never_both other.mps moved.fault read.says
-          moved.first
+          (has_one_reading run.words.default_upper run.mps_text).never_both other.mps first.fault.fault
+          (subst (λ (z : ℤ). IsMpsText z run.mps_text other.mps) (sym same_default)
+          (subst (λ (text : List ℕ). IsMpsText other.words.default_upper text other.mps)
+          (sym (one_mps_text first.held read.held)) read.says))
+          first.fault.first
 
 -- the first cause is one
 same_refusal : (file file' : List ℕ) (place place' : Place) (rule rule' : List ℕ) → file ≡ file'
@@ -184,6 +183,15 @@ module _ (files : Files) (run other : Run) (same : run.words ≡ other.words) (f
       aux_name : file ≡ run.words.aux → file' ≡ other.words.aux → file ≡ file'
       aux_name h k = h ∙ (same_aux_name files run other same ∙ sym k)
 
+      one_mps_fault : RefusesMps (Some files) run file place rule → RefusesMps (Some files) other file' place' rule'
+          → (place ≡ place') × (rule ≡ rule')
+      one_mps_fault first mps =
+          mps_once other.words.default_upper other.mps_text place place' rule rule'
+          (subst (λ (z : ℤ). IsMpsFault z other.mps_text place rule) (same_default files run other same)
+          (subst (λ (text : List ℕ). IsMpsFault run.words.default_upper text place rule)
+          (one_mps_text files run other same first.held mps.held) first.fault))
+          mps.fault
+
       one_aux : RefusesAux (Some files) run file place rule → RefusesAux (Some files) other file' place' rule'
           → (place ≡ place') × (rule ≡ rule')
       one_aux second aux =
@@ -197,8 +205,7 @@ module _ (files : Files) (run other : Run) (same : run.words ≡ other.words) (f
           → BadText file place rule ≡ BadText file' place' rule'
       at_mps first k =
           ⊎_elim (λ mps. same_refusal file file' place place' rule rule' (mps_name first.named mps.named)
-          (mps_once other.words.default_upper other.mps_text place place' rule rule'
-          (fault_there files run other same place rule first.held mps.held first.fault) mps.fault))
+          (one_mps_fault first mps))
           (λ rest. ⊎_elim (λ aux. absurd (mps_unrefused files other run (sym same) file place rule aux.mps first))
           (λ box. absurd (mps_unrefused files other run (sym same) file place rule box.reads.mps first)) rest) k
 

@@ -6,6 +6,8 @@ use Rattle.std.proofs.lemmas.Int.{ints}
 use Rattle.std.proofs.lemmas.Bool.{cases_lt}
 use Rattle.std.proofs.lemmas.Nat.{mul-le}
 use Rattle.bl_whole.specs.Sums.{component}
+use Rattle.bl_limits.specs.declared.TheConstants.{MAX_NUMBER}
+use Rattle.bl_run.specs.Steps.{IsDefaultUpper}
 use Rattle.bl_whole.specs.Within.{IsWithin, AreWithin}
 use Rattle.bl_whole.proofs.WithinLemmas.{within_dot, within_product, within_more, fits_from_within}
 use Rattle.bl_terms.specs.Programs.{Program, InBox, columns, root, follower_at}
@@ -64,3 +66,7 @@ follower_fits p z m is =
 pub program-columns : (mps : RawMps) (aux : RawAux) → columns (program_of mps aux) ≡ length mps.columns
 unfolding program_of
 program-columns mps aux = length-map mps.columns (λ c. c.lo)
+
+-- a default upper bound fits 64 bits
+pub upper_fits : (u : ℤ) → IsDefaultUpper u → FitsSigned w64 u
+upper_fits u h = let within : IsWithin MAX_NUMBER u = record { magnitude = h.1 } in fits_from_within w64 within (omega arith)

@@ -1,9 +1,6 @@
 -- From the steps of `solve` to how it ended.
-use Rattle.std.proofs.Common.{◌≡◌, ℕ, suc, ◌<◌, ◌≤◌, List, [], length, replicate, arith, refl, sym, subst, ◌∙◌, inl, inr, true, false}
-use Rattle.std.specs.Prelude.{ℤ, pos, nat_lt, Option, None, Some, codes}
-use Rattle.std.proofs.lemmas.Bool.Decides.{nat_tests}
-use Rattle.bl_mps_terms.specs.declared.fault.MpsRule.TheVariants as mps
-use Rattle.bl_mps_terms.specs.Faults.{first_fault}
+use Rattle.std.proofs.Common.{◌≡◌, ℕ, suc, ◌<◌, ◌≤◌, List, [], length, replicate, arith, refl, sym, subst, ◌∙◌, inl, inr}
+use Rattle.std.specs.Prelude.{false, ℤ, true, nat_lt, pos, Option, None, Some, codes}
 use Rattle.std.proofs.lemmas.List.{length-replicate}
 use Rattle.bl_outer.specs.Count.{Grew}
 use Rattle.bl_outer.specs.Files.{Files, IfTold, Holds, IsAbsent, Told}
@@ -15,6 +12,9 @@ use Rattle.bl_raw.specs.declared.raw.RawMps.{RawMps}
 use Rattle.bl_raw.specs.declared.raw.RawAux.{RawAux}
 use Rattle.bl_aux.specs.declared.fault.AuxRule.TheVariants.{TooLong}
 use Rattle.bl_aux.specs.Texts.{too_long}
+use Rattle.bl_mps_terms.specs.declared.fault.MpsRule.TheVariants as mps
+use Rattle.bl_mps_terms.specs.Faults.{first_fault}
+use Rattle.std.proofs.lemmas.Bool.Decides.{nat_tests}
 use Rattle.bl_model.specs.Build.{program_of}
 use Rattle.bl_terms.specs.Programs.{root}
 use Rattle.bl_terms.specs.Trees.{point_count}
@@ -56,11 +56,11 @@ unread files name Bad failure.Memory h = h
 unread files name Bad (failure.Missing file) h = h
 
 -- a text that is too long breaks that rule of an MPS text
-first_too_long : (default : ℤ) (text : List ℕ) → MAX_TEXT_BYTES < length text
+too_long_mps : (default : ℤ) (text : List ℕ) → MAX_TEXT_BYTES < length text
     → first_fault default text ≡ Some (record { rule = mps.TooLong; line = 0; column = 0 })
 unfolding first_fault
-first_too_long default text longer =
-    let test : nat_lt MAX_TEXT_BYTES (length text) ≡ true = grind (arith, nat_tests) in rw test refl
+too_long_mps default text long =
+    let yes : nat_lt MAX_TEXT_BYTES (length text) ≡ true = grind (arith, nat_tests) in rw yes refl
 
 pub mps_too_long : (files : Option Files) (name : List ℕ) (default : ℤ) (place : Place) (rule : List ℕ)
     → place ≡ AsWhole → rule ≡ codes "TooLong" → HasText files name IsTooLong
@@ -70,7 +70,7 @@ mps_too_long files name default place rule at by_rule h = record {
   held = h.held;
   is = record {
     fault = record { rule = mps.TooLong; line = 0; column = 0 };
-    first = first_too_long default h.text h.is;
+    first = too_long_mps default h.text h.is;
     at = at;
     by_rule = by_rule;
   };

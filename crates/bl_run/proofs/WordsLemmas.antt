@@ -7,8 +7,8 @@ use Rattle.bl_words.specs.declared.commands.Command.{Command}
 use Rattle.bl_words.specs.declared.commands.Choice.TheVariants.{DefaultUpper}
 use Rattle.bl_words.specs.Commands.{name_of}
 use Rattle.bl_words.specs.Items.{Item, texts_of, IsUpper, AreSpelled, AreModelWords}
-use Rattle.std.proofs.lemmas.Int.{ints}
 use Rattle.bl_words.proofs.Spellings.{read_spelled}
+use Rattle.std.proofs.lemmas.Int.{ints}
 use Rattle.bl_run.specs.Steps.{IsDefaultUpper}
 
 same_rest : (name : List ℕ) (a b : List (List ℕ)) → name ∷ a ≡ name ∷ b → a ≡ b
@@ -16,6 +16,16 @@ same_rest name a b e = cc
 
 same_items : (a b : List Item) → Some a ≡ Some b → a ≡ b
 same_items a b e = cc
+
+-- a default upper bound is within its limits
+upper_within : (texts : List (List ℕ)) (u : ℤ) → IsUpper texts u → IsDefaultUpper u
+upper_within [] u h = rw h (omega (arith, ints), omega (arith, ints))
+upper_within (text ∷ []) u h = rw h.3 (omega (arith, ints), h.1)
+upper_within (text ∷ other ∷ texts) u h = absurd h
+
+pub words_within : (command : Command) (words : List (List ℕ)) (m a : List ℕ) (u : ℤ)
+    → AreModelWords command words m a u → IsDefaultUpper u
+words_within command words m a u h = upper_within (texts_of (Some DefaultUpper) h.items) u h.said.default_upper
 
 same_files : (a b c d : List ℕ) → a ∷ b ∷ [] ≡ c ∷ d ∷ [] → (a ≡ c) × (b ≡ d)
 same_files a b c d e =
@@ -32,16 +42,6 @@ same_upper (text ∷ []) u v g h =
     let few : h.0 < 2 ^ 64 = omega (arith, h.1) in
     g.3 ∙ ap (λ (n : ℕ). pos n) (decimal_injective g.0 h.0 small few same) ∙ sym h.3
 same_upper (text ∷ other ∷ texts) u v g h = absurd g
-
--- a default upper bound is from 0 to the greatest number
-upper_fits : (texts : List (List ℕ)) (u : ℤ) → IsUpper texts u → IsDefaultUpper u
-upper_fits [] u h = rw h (omega (arith, ints), omega arith)
-upper_fits (text ∷ []) u h = let small = h.1 in rw h.3 (omega (arith, ints), omega arith)
-upper_fits (text ∷ other ∷ texts) u h = absurd h
-
-pub default_fits : (command : Command) (words : List (List ℕ)) (m a : List ℕ) (u : ℤ) → AreModelWords command words m a u
-    → IsDefaultUpper u
-default_fits command words m a u h = upper_fits (texts_of (Some DefaultUpper) h.items) u h.said.default_upper
 
 pub says_once : (command : Command) (words : List (List ℕ)) (m n a b : List ℕ) (u v : ℤ)
     → AreModelWords command words m a u → AreModelWords command words n b v → (m ≡ n) × (a ≡ b) × (u ≡ v)

@@ -1,5 +1,5 @@
 -- Internal: what the private calls of a command promise one another.
-use Rattle.std.specs.Prelude.{◌≡◌, ℕ, ◌<◌, ◌≤◌, ℤ, pos, ◌≤ℤ◌, unsigned_abs, List, ◌++◌, length, Option, Ok, Err, ⊤, codes}
+use Rattle.std.specs.Prelude.{ℤ, pos, ◌≤ℤ◌, ◌≤◌, unsigned_abs, ◌≡◌, ℕ, ◌<◌, List, ◌++◌, length, Option, Ok, Err, ⊤, codes}
 use Rattle.std.specs.declared.result.Result.{Result}
 use Rattle.bl_outer.specs.Count.{Grew}
 use Rattle.bl_outer.specs.Files.{Files, IfTold, Told, IsAbsent}
@@ -26,7 +26,7 @@ use Rattle.bl_run.specs.Endings.{Place, AtLine, AtColumn, AsWhole, ToOutput, End
 use Rattle.bl_run.specs.Report.{Statement, Answers, report_of}
 use Rattle.bl_run.specs.Solve.{Run, ending_of, IsCause}
 use Rattle.bl_run.specs.Promise.{Outside, HasCause, ReadFaultsAt, MissesAt, Leaves}
-use Rattle.bl_limits.specs.declared.TheConstants.{MAX_TEXT_BYTES, MAX_WALK_POINTS, MAX_NUMBER}
+use Rattle.bl_limits.specs.declared.TheConstants.{MAX_NUMBER, MAX_TEXT_BYTES, MAX_WALK_POINTS}
 
 -- the place of a fault
 abbrev pub place_of : place.Place → Place
@@ -120,6 +120,10 @@ FailsToSolve name mps aux failure.WriteFault = ⊥
 FailsToSolve name mps aux failure.Memory = ⊤
 FailsToSolve name mps aux (failure.Missing file) = ⊥
 
+-- a default upper bound within its limits
+abbrev pub IsDefaultUpper : ℤ → Type 0
+IsDefaultUpper upper = (pos 0 ≤ℤ upper) × (unsigned_abs upper ≤ MAX_NUMBER)
+
 -- what the words ask for
 abbrev pub asked_by : words.SolveWords → SolveWords
 asked_by asked = record { mps = asked.mps.now; aux = asked.aux.now; default_upper = asked.default_upper }
@@ -136,7 +140,3 @@ pub record EndsCommand (words : List (List ℕ)) (old new : Outside) (ending : E
   pub run : Run
   pub cause : HasCause words old.files.contents run ending
   pub leaves : Leaves run ending old new
-
--- a default upper bound that a text can be read with
-abbrev pub IsDefaultUpper : ℤ → Type 0
-IsDefaultUpper z = (pos 0 ≤ℤ z) × (unsigned_abs z ≤ MAX_NUMBER)

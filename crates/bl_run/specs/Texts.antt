@@ -1,20 +1,20 @@
 -- Trusted: what the two texts of a model say, and how a text that says nothing is refused.
-use Rattle.std.specs.Prelude.{◌≡◌, ℕ, ◌==◌, Bool, true, false, List, length, ℤ, Some, codes, if◌then◌else◌}
+use Rattle.std.specs.Prelude.{◌≡◌, ℕ, ℤ, ◌==◌, Bool, true, false, List, length, Some, codes, if◌then◌else◌}
 use Rattle.bl_raw.specs.declared.raw.RawMps.{RawMps}
 use Rattle.bl_raw.specs.declared.raw.RawAux.{RawAux}
 use Rattle.bl_mps_terms.specs.declared.fault.MpsFault.{MpsFault}
 use Rattle.bl_mps_terms.specs.declared.fault.MpsRule.{MpsRule}
 use Rattle.bl_mps_terms.specs.declared.fault.MpsRule.TheVariants as mps
 use Rattle.bl_mps_terms.specs.Faults.{first_fault}
-use Rattle.bl_mps_terms.specs.Meaning.{Reads}
+use Rattle.bl_mps_terms.specs.Meaning as meaning
 use Rattle.bl_aux.specs.declared.fault.AuxFault.{AuxFault}
 use Rattle.bl_aux.specs.declared.fault.AuxRule.{AuxRule}
-use Rattle.bl_aux.specs.declared.fault.AuxRule.TheVariants.{Unsupported, BadKey, BadNumber, NotWhole, TooLarge, OutOfOrder, Repeated, BadIndex, BadSense, CountDiffers, TooLong}
+use Rattle.bl_aux.specs.declared.fault.AuxRule.TheVariants as aux
 use Rattle.bl_aux.specs.Given.{Sizes, sizes_of}
 use Rattle.bl_aux.specs.Texts.{Says, IsFirstFault}
 use Rattle.bl_run.specs.Endings.{Place, AtLine, AtColumn, AsWhole}
 
--- what isn't read yet is refused as a whole, by this rule
+-- what isn't solved yet is refused as a whole, by this rule
 abbrev pub IsNotYet : Place → List ℕ → Type 0
 IsNotYet place rule = (place ≡ AsWhole) × (rule ≡ codes "NotYet")
 
@@ -22,9 +22,7 @@ IsNotYet place rule = (place ≡ AsWhole) × (rule ≡ codes "NotYet")
 abbrev pub line_place : ℕ → Place
 line_place line = if line == 0 then AsWhole else AtLine line
 
--- the MPS text says this model, with a default upper bound
-abbrev pub IsMpsText : ℤ → List ℕ → RawMps → Type 0
-IsMpsText default text mps = Reads default text mps
+-- ---- MPS texts
 
 -- a rule by its name
 abbrev pub mps_rule : MpsRule → List ℕ
@@ -49,7 +47,7 @@ mps_rule mps.Unbounded = codes "Unbounded"
 mps_rule mps.NegativeUpper = codes "NegativeUpper"
 mps_rule mps.EmptyBounds = codes "EmptyBounds"
 
--- the rules on a whole column
+-- the rule is broken by one column
 abbrev pub is_of_column : MpsRule → Bool
 is_of_column mps.Continuous = true
 is_of_column mps.Unbounded = true
@@ -57,9 +55,17 @@ is_of_column mps.NegativeUpper = true
 is_of_column mps.EmptyBounds = true
 is_of_column _ = false
 
--- where an MPS text breaks its first rule
+-- a line, or else a column where the rule is broken by one
+abbrev pub column_place : Bool → MpsFault → Place
+column_place true fault = AtColumn fault.column
+column_place false fault = AsWhole
+
 abbrev pub mps_place : MpsFault → Place
-mps_place fault = if is_of_column fault.rule then AtColumn fault.column else line_place fault.line
+mps_place fault = if fault.line == 0 then column_place (is_of_column fault.rule) fault else AtLine fault.line
+
+-- the MPS text says this model, with a default upper bound
+abbrev pub IsMpsText : ℤ → List ℕ → RawMps → Type 0
+IsMpsText default text mps = meaning.Reads default text mps
 
 -- the MPS text breaks this rule at this place, before any other
 pub record IsMpsFault (default : ℤ) (text : List ℕ) (place : Place) (rule : List ℕ) : Type 0 where
@@ -68,6 +74,22 @@ pub record IsMpsFault (default : ℤ) (text : List ℕ) (place : Place) (rule : 
   pub at : place ≡ mps_place fault
   pub by_rule : rule ≡ mps_rule fault.rule
 
+-- ---- auxiliary texts
+
+-- a rule by its name
+abbrev pub aux_rule : AuxRule → List ℕ
+aux_rule aux.Unsupported = codes "Unsupported"
+aux_rule aux.BadKey = codes "BadKey"
+aux_rule aux.BadNumber = codes "BadNumber"
+aux_rule aux.NotWhole = codes "NotWhole"
+aux_rule aux.TooLarge = codes "TooLarge"
+aux_rule aux.OutOfOrder = codes "OutOfOrder"
+aux_rule aux.Repeated = codes "Repeated"
+aux_rule aux.BadIndex = codes "BadIndex"
+aux_rule aux.BadSense = codes "BadSense"
+aux_rule aux.CountDiffers = codes "CountDiffers"
+aux_rule aux.TooLong = codes "TooLong"
+
 -- how many columns and rows the model has
 abbrev pub sizes : RawMps → Sizes
 sizes mps = sizes_of (length mps.columns) (length mps.rows)
@@ -75,20 +97,6 @@ sizes mps = sizes_of (length mps.columns) (length mps.rows)
 -- the auxiliary text says this follower of the model
 abbrev pub IsAuxText : RawMps → List ℕ → RawAux → Type 0
 IsAuxText mps text aux = Says (sizes mps) text aux
-
--- a rule by its name
-abbrev pub aux_rule : AuxRule → List ℕ
-aux_rule Unsupported = codes "Unsupported"
-aux_rule BadKey = codes "BadKey"
-aux_rule BadNumber = codes "BadNumber"
-aux_rule NotWhole = codes "NotWhole"
-aux_rule TooLarge = codes "TooLarge"
-aux_rule OutOfOrder = codes "OutOfOrder"
-aux_rule Repeated = codes "Repeated"
-aux_rule BadIndex = codes "BadIndex"
-aux_rule BadSense = codes "BadSense"
-aux_rule CountDiffers = codes "CountDiffers"
-aux_rule TooLong = codes "TooLong"
 
 -- the auxiliary text breaks this rule at this place, before any other
 pub record IsAuxFault (mps : RawMps) (text : List ℕ) (place : Place) (rule : List ℕ) : Type 0 where

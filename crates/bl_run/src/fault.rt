@@ -1,7 +1,7 @@
 //! The rule that a text breaks first, and where.
 
 ghost use Rattle.std.specs.Prelude.{◌≡◌};
-ghost use Rattle.bl_run.specs.Texts.{aux_rule, is_of_column, line_place, mps_place, mps_rule};
+ghost use Rattle.bl_run.specs.Texts.{mps_rule, mps_place, is_of_column, aux_rule, line_place};
 ghost use Rattle.bl_run.specs.Steps.{place_of};
 
 use bl_aux::{AuxFault, AuxRule};
@@ -41,11 +41,11 @@ pub(crate) fn mps_fault(fault: MpsFault) -> TextFault
     }
 }
 
-/// The column, where the rule is on a whole one, and else the line.
+/// The line, or else the column where the rule is of one column.
 fn mps_place(fault: MpsFault) -> Place
     ensures { place_of result ≡ mps_place fault }
 {
-    if is_of_column(fault.rule) {
+    if fault.line == 0 && is_of_column(fault.rule) {
         Place::Column(fault.column)
     } else {
         line_place(fault.line)
@@ -55,10 +55,11 @@ fn mps_place(fault: MpsFault) -> Place
 fn is_of_column(rule: MpsRule) -> bool
     ensures { result ≡ is_of_column rule }
 {
-    matches!(
-        rule,
-        MpsRule::Continuous | MpsRule::Unbounded | MpsRule::NegativeUpper | MpsRule::EmptyBounds
-    )
+    match rule {
+        MpsRule::Continuous | MpsRule::Unbounded | MpsRule::NegativeUpper | MpsRule::EmptyBounds =>
+            true,
+        _ => false,
+    }
 }
 
 fn mps_rule(rule: MpsRule) -> &'static str

@@ -10,7 +10,7 @@ ghost use Rattle.bl_terms.specs.Trees.{point_count};
 ghost use Rattle.bl_raw.specs.Raw.{IsRawModel, FitsModel};
 ghost use Rattle.bl_model.specs.Build.{program_of};
 ghost use Rattle.bl_run.specs.Texts.{IsMpsText, IsMpsFault, IsAuxText, IsAuxFault};
-ghost use Rattle.bl_run.specs.Steps.{result_ending, OnlyCounts, HasText, FailsToRead, NoFault, IsTooLong, IsReport, FailsToSolve, Ends, asked_by, IsDefaultUpper};
+ghost use Rattle.bl_run.specs.Steps.{result_ending, OnlyCounts, HasText, FailsToRead, NoFault, IsTooLong, IsReport, FailsToSolve, Ends, IsDefaultUpper, asked_by};
 
 use crate::fault::{TextFault, aux_fault, mps_fault};
 use crate::report::{INFEASIBLE, optimal_report};
@@ -74,7 +74,8 @@ fn read_mps<'a, F: Shelf>(
     ensures limits { IfOk result IsRawModel }
     ensures read { IfOk result (λ mps.
         HasText (F.state files.old).contents name.now (λ text. IsMpsText default_upper text mps)) }
-    ensures failed { IfErr result (FailsToRead (F.state files.old).contents name.now (IsMpsFault default_upper)) }
+    ensures failed { IfErr result
+        (FailsToRead (F.state files.old).contents name.now (IsMpsFault default_upper)) }
     ensures counts { OnlyCounts (F.state files.old) (F.state files.new) result }
 {
     let Some(text) = read_file(alloc, files, name)? else {

@@ -9,8 +9,8 @@ use std::sync::Wait;
 use std::test::Fail;
 use std::thread::Threads;
 use texts::{
-    ALONE, CHOICE, INTERDICTION, INTERDICTION_AUX, LARGE, MOORE_BARD, MOORE_BARD_AUX, RAMP, TIES,
-    TIES_AUX, TOLL, TOLL_AUX, UNWILLING,
+    ALONE, CHOICE, GREATEST, INTERDICTION, INTERDICTION_AUX, LARGE, MOORE_BARD, MOORE_BARD_AUX,
+    RAMP, TIES, TIES_AUX, TOLL, TOLL_AUX, UNWILLING,
 };
 
 /// What a run prints: this, or this and something behind it where several points are optimal.
@@ -40,7 +40,7 @@ struct Case {
 
 const NO_FOLLOWER: &str = "N 0\nM 0\nOS 1\n";
 
-const CASES: [Case; 17] = [
+const CASES: [Case; 19] = [
     Case {
         name: "Moore and Bard",
         mps: MOORE_BARD,
@@ -121,38 +121,52 @@ const CASES: [Case; 17] = [
         err: "",
     },
     Case {
-        name: "a column without an upper bound",
-        mps: "NAME\nROWS\n N COST\nCOLUMNS\n M 'MARKER' 'INTORG'\n X COST 1\n M 'MARKER' 'INTEND'\nRHS\n\
-              BOUNDS\n LO BND X 1\nENDATA\n",
-        aux: NO_FOLLOWER,
-        status: 3,
-        report: Report::Is(""),
-        err: "mibs: m.mps: column 0: Unbounded\n",
+        name: "a leader who maximises",
+        mps: GREATEST,
+        aux: "N 1\nM 1\nLC 1\nLR 0\nLO 1\nOS -1\n",
+        status: 0,
+        report: Report::Is("optimal\nvalue 3\nfollower 3\ncolumn X 3\ncolumn Y 3\n"),
+        err: "",
+    },
+    Case {
+        name: "a fixed column",
+        mps: "ROWS\n N COST\n L R\nCOLUMNS\n M 'MARKER' 'INTORG'\n X COST 2 R 1\nRHS\n R 3\nBOUNDS\n FX X 3\nENDATA\n",
+        aux: "N 0\nM 0\n",
+        status: 0,
+        report: Report::Is("optimal\nvalue 6\nfollower 0\ncolumn X 3\n"),
+        err: "",
+    },
+    Case {
+        name: "a fixed column that its row refuses",
+        mps: "ROWS\n N COST\n L R\nCOLUMNS\n M 'MARKER' 'INTORG'\n X COST 2 R 1\nRHS\n R 2\nBOUNDS\n FX X 3\nENDATA\n",
+        aux: "N 0\nM 0\n",
+        status: 1,
+        report: Report::Is("infeasible\n"),
+        err: "",
     },
     Case {
         name: "an unknown section",
-        mps: "NAME\nBOGUS\nENDATA\n",
+        mps: "NAME\nBOGUS\n",
         aux: NO_FOLLOWER,
         status: 3,
         report: Report::Is(""),
         err: "mibs: m.mps: line 2: BadSection\n",
     },
     Case {
-        name: "no cost row",
+        name: "a column without an upper bound",
+        mps: "ROWS\n N COST\nCOLUMNS\n M 'MARKER' 'INTORG'\n X COST 1\nBOUNDS\n UP BND X 1e30\nENDATA\n",
+        aux: NO_FOLLOWER,
+        status: 3,
+        report: Report::Is(""),
+        err: "mibs: m.mps: column 0: Unbounded\n",
+    },
+    Case {
+        name: "no row for the cost",
         mps: "ROWS\nCOLUMNS\nENDATA\n",
         aux: NO_FOLLOWER,
         status: 3,
         report: Report::Is(""),
         err: "mibs: m.mps: NoObjective\n",
-    },
-    Case {
-        name: "a leader who maximises",
-        mps: "NAME\nOBJSENSE\n MAX\nROWS\n N COST\n L C\nCOLUMNS\n M 'MARKER' 'INTORG'\n X COST 2 C -1\n Y COST -1 C 1\n M 'MARKER' 'INTEND'\n\
-              BOUNDS\n UP X 3\n UP Y 5\nENDATA\n",
-        aux: "N 1\nM 1\nLC 1\nLR 0\nLO 1\nOS -1\n",
-        status: 0,
-        report: Report::Is("optimal\nvalue 3\nfollower 3\ncolumn X 3\ncolumn Y 3\n"),
-        err: "",
     },
     Case {
         name: "an auxiliary text in another order",
@@ -246,18 +260,27 @@ fn solves_the_worked_examples(rt: HostRuntime) -> Result<(), Fail> {
 
 #[test]
 fn takes_a_default_upper_bound(rt: HostRuntime) -> Result<(), Fail> {
-    let taken: [&[&str]; 2] = [
-        &["solve", "--default-upper", "9", "m.mps", "m.aux"],
-        &["solve", "m.mps", "--default-upper=0", "m.aux"],
+    // X from 0 to the default upper bound, cost -X.
+    let mps = "ROWS\n N COST\nCOLUMNS\n M 'MARKER' 'INTORG'\n X COST -1\nENDATA\n";
+    let taken: [(&[&str], &str); 3] = [
+        (&SOLVE, "optimal\nvalue -1\nfollower 0\ncolumn X 1\n"),
+        (
+            &["solve", "--default-upper", "9", "m.mps", "m.aux"],
+            "optimal\nvalue -9\nfollower 0\ncolumn X 9\n",
+        ),
+        (
+            &["solve", "m.mps", "--default-upper=0", "m.aux"],
+            "optimal\nvalue 0\nfollower 0\ncolumn X 0\n",
+        ),
     ];
-    for texts in taken {
+    for (texts, report) in taken {
         let words = words(rt.alloc(), texts)?;
-        let mut files = shelf(rt.alloc(), MOORE_BARD, MOORE_BARD_AUX, &[])?;
+        let mut files = shelf(rt.alloc(), mps, NO_FOLLOWER, &[])?;
         let mut out = MemSink::new(rt.alloc(), &[])?;
         let mut err = MemSink::new(rt.alloc(), &[])?;
         let status = status_alone(rt.alloc(), &words, &mut files, &mut out, &mut err);
         assert_eq!(rt; status, Status(0), "{texts:?}");
-        assert_eq!(rt; err.bytes(), b"".as_slice());
+        assert_eq!(rt; out.bytes(), report.as_bytes(), "{texts:?}");
     }
     Ok(())
 }

@@ -188,6 +188,24 @@ BOUNDS
 ENDATA
 ";
 
+/// X 0..3, Y 0..5, the follower's row Y - X <= 0, and 2X - Y to be maximised.
+pub(super) const GREATEST: &str = "\
+NAME
+OBJSENSE MAX
+ROWS
+ N COST
+ L R
+COLUMNS
+ M 'MARKER' 'INTORG'
+ X COST 2 R -1
+ Y COST -1 R 1
+ M 'MARKER' 'INTEND'
+BOUNDS
+ UP X 3
+ UP Y 5
+ENDATA
+";
+
 /// X, Y1, Y2 0..1, the leader's row Y1 + Y2 <= 1, cost -Y1 - Y2.
 pub(super) const CHOICE: &str = "\
 NAME

@@ -1,71 +1,52 @@
-use Rattle.std.proofs.Common.{◌≡◌, ℕ, ◌<◌, List, subst, arith}
-use Rattle.std.specs.Prelude.{ℤ, Option}
+use Rattle.std.proofs.lemmas.Result.{err_from_is_err_and}
+use Rattle.bl_run.specs.Words.{SolveWords}
+use Rattle.bl_run.specs.Steps.{asked_by}
 use Rattle.std.specs.Int.{w64}
 use Rattle.std.proofs.lemmas.Int.{to_z-of_z}
-use Rattle.std.proofs.lemmas.Result.{err_from_is_err_and}
-use mir.Val.{to_z, of_z}
-use Rattle.bl_limits.specs.declared.TheConstants.{MAX_NUMBER}
-use Rattle.bl_whole.proofs.WithinLemmas.{fits_from_within}
-use Rattle.bl_outer.specs.Files.{Files}
-use Rattle.bl_raw.specs.declared.raw.RawMps.{RawMps}
-use Rattle.bl_run.specs.declared.status.Failure.{Failure}
-use Rattle.bl_run.specs.Texts.{IsMpsText, IsMpsFault}
-use Rattle.bl_run.specs.Words.{SolveWords}
-use Rattle.bl_run.specs.Steps.{asked_by, HasText, FailsToRead, IsDefaultUpper}
+use Rattle.bl_run.proofs.SolveLemmas.{upper_fits}
 use Rattle.bl_run.proofs.StepLemmas.{mps_stops, aux_stops, solving_stops, printing_stops, answered}
 use Rattle.bl_run.proofs.solve.solve.Goals as goal
-
--- a default upper bound is the same as a machine word
-upper : (z : ℤ) → IsDefaultUpper z → to_z w64 (of_z w64 z) ≡ z
-upper z h = to_z-of_z w64 z (fits_from_within w64 {m = MAX_NUMBER} {z = z} (record { magnitude = h.1 }) (omega arith))
-
-failed_with : (files : Option Files) (name : List ℕ) (z : ℤ) (failure : Failure) → IsDefaultUpper z
-    → FailsToRead files name (IsMpsFault (to_z w64 (of_z w64 z))) failure → FailsToRead files name (IsMpsFault z) failure
-failed_with files name z failure h why =
-    subst (λ (u : ℤ). FailsToRead files name (IsMpsFault u) failure) (upper z h) why
-
-read_with : (files : Option Files) (name : List ℕ) (z : ℤ) (mps : RawMps) → IsDefaultUpper z
-    → HasText files name (λ text. IsMpsText (to_z w64 (of_z w64 z)) text mps)
-    → HasText files name (λ text. IsMpsText z text mps)
-read_with files name z mps h read =
-    subst (λ (u : ℤ). HasText files name (λ text. IsMpsText u text mps)) (upper z h) read
 
 pub returns-in_err-mps : goal.returns-in_err-mps
 returns-in_err-mps g c =
     let asked : SolveWords = asked_by c.args.words in
+    let upper = to_z-of_z w64 c.args.words.default_upper (upper_fits c.args.words.default_upper c.requires) in
     let p = err_from_is_err_and c.from_residual.result c.from_residual.ensures.1 in
     rw (p.1, p.2)
     (mps_stops asked (g.F.Shelf.state c.args.files.now) (g.F.Shelf.state c.read_mps.new.files)
-    (g.O.Sink.state c.args.out.now) c.in_err-mps.field-0.0 (failed_with _ _ c.args.words.default_upper _ c.requires c.in_err-mps.ensures.failed) c.in_err-mps.ensures.counts)
+    (g.O.Sink.state c.args.out.now) c.in_err-mps.field-0.0 (rw upper at c.in_err-mps.ensures.failed) c.in_err-mps.ensures.counts)
 
 pub returns-in_err-aux : goal.returns-in_err-aux
 returns-in_err-aux g c =
     let asked : SolveWords = asked_by c.args.words in
+    let upper = to_z-of_z w64 c.args.words.default_upper (upper_fits c.args.words.default_upper c.requires) in
     let p = err_from_is_err_and c.from_residual-in_err-aux.result c.from_residual-in_err-aux.ensures.1 in
     rw (p.1, p.2)
     (aux_stops asked (g.F.Shelf.state c.args.files.now) (g.F.Shelf.state c.read_mps.new.files)
     (g.F.Shelf.state c.read_aux.new.files) (g.O.Sink.state c.args.out.now) c.in_ok-mps.mps
-    (read_with _ _ c.args.words.default_upper c.in_ok-mps.mps c.requires c.in_ok-mps.ensures.read) c.in_ok-mps.ensures.counts
+    (rw upper at c.in_ok-mps.ensures.read) c.in_ok-mps.ensures.counts
     c.in_err-aux.field-0.0 c.in_err-aux.ensures.failed c.in_err-aux.ensures.counts)
 
 pub returns-in_err-report : goal.returns-in_err-report
 returns-in_err-report g c =
     let asked : SolveWords = asked_by c.args.words in
+    let upper = to_z-of_z w64 c.args.words.default_upper (upper_fits c.args.words.default_upper c.requires) in
     let p = err_from_is_err_and c.from_residual-in_err-report.result c.from_residual-in_err-report.ensures.1 in
     rw (p.1, p.2)
     (solving_stops asked (g.F.Shelf.state c.args.files.now) (g.F.Shelf.state c.read_mps.new.files)
     (g.F.Shelf.state c.read_aux.new.files) c.in_ok-mps.mps c.in_ok-aux.aux
-    (read_with _ _ c.args.words.default_upper c.in_ok-mps.mps c.requires c.in_ok-mps.ensures.read) c.in_ok-mps.ensures.counts c.in_ok-aux.ensures.read c.in_ok-aux.ensures.counts
+    (rw upper at c.in_ok-mps.ensures.read) c.in_ok-mps.ensures.counts c.in_ok-aux.ensures.read c.in_ok-aux.ensures.counts
     (g.O.Sink.state c.args.out.now) c.in_err-report.field-0.0 c.in_err-report.ensures.failed)
 
 pub returns-in_err-put : goal.returns-in_err-put
 returns-in_err-put g c =
     let asked : SolveWords = asked_by c.args.words in
+    let upper = to_z-of_z w64 c.args.words.default_upper (upper_fits c.args.words.default_upper c.requires) in
     let p = err_from_is_err_and c.from_residual-in_err-put.result c.from_residual-in_err-put.ensures.1 in
     rw (p.1, p.2)
     (printing_stops asked (g.F.Shelf.state c.args.files.now) (g.F.Shelf.state c.read_mps.new.files)
     (g.F.Shelf.state c.read_aux.new.files) c.in_ok-mps.mps c.in_ok-aux.aux
-    (read_with _ _ c.args.words.default_upper c.in_ok-mps.mps c.requires c.in_ok-mps.ensures.read) c.in_ok-mps.ensures.counts c.in_ok-aux.ensures.read c.in_ok-aux.ensures.counts
+    (rw upper at c.in_ok-mps.ensures.read) c.in_ok-mps.ensures.counts c.in_ok-aux.ensures.read c.in_ok-aux.ensures.counts
     (g.O.Sink.state c.args.out.now) (g.O.Sink.state c.put.new.self)
     c.in_ok-report.report.text.items c.in_ok-report.report.answer c.in_ok-report.ensures.few
     c.in_ok-report.ensures.report (rw c.deref.ensures.value at c.in_err-put.ensures.err) c.in_err-put.ensures.fault)
@@ -73,9 +54,10 @@ returns-in_err-put g c =
 pub returns : goal.returns
 returns g c =
     let asked : SolveWords = asked_by c.args.words in
+    let upper = to_z-of_z w64 c.args.words.default_upper (upper_fits c.args.words.default_upper c.requires) in
     answered asked (g.F.Shelf.state c.args.files.now) (g.F.Shelf.state c.read_mps.new.files)
     (g.F.Shelf.state c.read_aux.new.files) c.in_ok-mps.mps c.in_ok-aux.aux
-    (read_with _ _ c.args.words.default_upper c.in_ok-mps.mps c.requires c.in_ok-mps.ensures.read) c.in_ok-mps.ensures.counts c.in_ok-aux.ensures.read c.in_ok-aux.ensures.counts
+    (rw upper at c.in_ok-mps.ensures.read) c.in_ok-mps.ensures.counts c.in_ok-aux.ensures.read c.in_ok-aux.ensures.counts
     (g.O.Sink.state c.args.out.now) (g.O.Sink.state c.put.new.self)
     c.in_ok-report.report.text.items c.in_ok-report.report.answer c.in_ok-report.ensures.few
     c.in_ok-report.ensures.report (rw c.deref.ensures.value at c.in_ok-put.ensures.ok) c.in_ok-put.ensures.fault

@@ -1,11 +1,9 @@
 use Rattle.std.proofs.lemmas.Result.{err_from_is_err_and}
 use Rattle.bl_run.specs.Steps.{asked_by}
 use Rattle.bl_run.proofs.StepLemmas.{no_memory, no_command, command_ends}
-use Rattle.bl_run.proofs.WordsLemmas.{default_fits}
+use Rattle.bl_words.specs.declared.commands.Command.TheVariants.{Solve}
+use Rattle.bl_run.proofs.WordsLemmas.{words_within}
 use Rattle.bl_run.proofs.top.command.Goals as goal
-
-pub solve-requires : goal.solve-requires
-solve-requires g c = default_fits _ _ _ _ _ (rw c.in-Some.is at c.in_ok-asked.ensures.found)
 
 pub returns-in_err-asked : goal.returns-in_err-asked
 returns-in_err-asked g c =
@@ -19,3 +17,7 @@ returns-in_default g c =
 pub returns : goal.returns
 returns g c =
     command_ends _ (asked_by c.in-Some.asked) _ _ _ (rw c.in-Some.is at c.in_ok-asked.ensures.found) c.solve.ensures
+
+pub solve-requires : goal.solve-requires
+solve-requires g c =
+    let found = rw c.in-Some.is at c.in_ok-asked.ensures.found in words_within Solve _ _ _ _ found
