@@ -55,7 +55,7 @@ const CASES: [Case; 19] = [
         aux: TOLL_AUX,
         status: 0,
         report: Report::Is(
-            "optimal\nvalue -4\nfollower 6\ncolumn TOLL 4\ncolumn FAST 1\ncolumn SLOW 0\ncolumn REVENUE 4\n",
+            "optimal\nvalue 4\nfollower 6\ncolumn TOLL 4\ncolumn FAST 1\ncolumn SLOW 0\ncolumn REVENUE 4\n",
         ),
         err: "",
     },

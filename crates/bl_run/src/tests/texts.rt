@@ -41,41 +41,41 @@ OS 1
 
 /// A toll on a fast road.
 pub(super) const TOLL: &str = "\
+* An authority sets a toll on the fast road and earns it where the traveller takes that road.
 NAME          TOLL
+OBJSENSE
+    MAX
 ROWS
- N  COST
- G  ONEROAD
- L  NOTBOTH
+ N  EARNED
+* One of the two roads is taken.
+ E  ONEROAD
+* Where the fast road is taken, the revenue is at least the toll: TOLL + 5 FAST - REVENUE <= 5.
  L  PAID
 COLUMNS
     MARKER1   'MARKER'  'INTORG'
     TOLL      PAID         1
-    FAST      ONEROAD      1   NOTBOTH      1
-    FAST      PAID         5
-    SLOW      ONEROAD      1   NOTBOTH      1
-    REVENUE   COST        -1   PAID        -1
+    FAST      ONEROAD      1   PAID         5
+    SLOW      ONEROAD      1
+    REVENUE   EARNED       1   PAID        -1
     MARKER2   'MARKER'  'INTEND'
 RHS
-    RHS       ONEROAD      1
-    RHS       NOTBOTH      1
-    RHS       PAID         5
+    RHS       ONEROAD      1   PAID         5
 BOUNDS
  UP BND       TOLL      5
- UP BND       FAST      1
- UP BND       SLOW      1
+ BV BND       FAST
+ BV BND       SLOW
  UP BND       REVENUE   5
 ENDATA
 ";
 
 pub(super) const TOLL_AUX: &str = "\
 N 3
-M 3
+M 2
 LC 1
 LC 2
 LC 3
 LR 0
 LR 1
-LR 2
 LO 2
 LO 6
 LO 1
