@@ -1,6 +1,6 @@
 -- That a cause excludes the others, and from how a command ended to its promise.
 use Rattle.std.proofs.Common.{◌≡◌, ℕ, ◌<◌, ◌≤◌, List, arith, refl, sym, ap, subst, ◌∙◌, ◌⊎◌, inl, inr, ⊎_elim, []}
-use Rattle.std.specs.Prelude.{ℤ, pos, Option, None, Some}
+use Rattle.std.specs.Prelude.{ℤ, Option, None, Some}
 use Rattle.bl_outer.specs.Files.{Files, IsAbsent, IfTold}
 use Rattle.bl_outer.specs.Sink.{SinkState}
 use Rattle.bl_limits.specs.declared.TheConstants.{MAX_WALK_POINTS}
