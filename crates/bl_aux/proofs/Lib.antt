@@ -1,3 +1,5 @@
+pub mod CanonicalLines
+pub mod Canonicals
 pub mod EntryLaws
 pub mod FaultLaws
 pub mod Followers

@@ -1,8 +1,10 @@
 -- Trusted. What fixes the meaning of every text.
-use Rattle.std.specs.Prelude.{◌≡◌, ◌⊎◌, ℕ, List}
+use Rattle.std.specs.Prelude.{◌≡◌, ◌⊎◌, ℕ, ◌^◌, ◌<◌, ◌≤◌, List, length}
+use Rattle.bl_limits.specs.declared.TheConstants.{MAX_TEXT_BYTES}
 use Rattle.bl_raw.specs.declared.raw.RawAux.{RawAux}
 use Rattle.bl_raw.specs.Raw.{FitsModel}
 use Rattle.bl_aux.specs.declared.fault.AuxFault.{AuxFault}
+use Rattle.bl_aux.specs.Canonical.{aux_text}
 use Rattle.bl_aux.specs.Given.{Sizes}
 use Rattle.bl_aux.specs.Texts.{Says, IsFirstFault}
 
@@ -20,3 +22,8 @@ pub record TellsOne : Type 0 where
 abbrev pub SaysFollowers : Type 0
 SaysFollowers = (sizes : Sizes) (text : List ℕ) (aux : RawAux) → Says sizes text aux
     → FitsModel sizes.columns sizes.rows aux
+
+-- A follower's canonical text says that follower, for a model with so many columns and rows as can be given.
+abbrev pub ReadsBack : Type 0
+ReadsBack = (sizes : Sizes) (aux : RawAux) → sizes.columns < 2 ^ 32 → sizes.rows < 2 ^ 32
+    → FitsModel sizes.columns sizes.rows aux → length (aux_text aux) ≤ MAX_TEXT_BYTES → Says sizes (aux_text aux) aux

@@ -1,5 +1,6 @@
 //! The tableau: a dictionary in memory, with the pivots that led to it.
-ghost use Rattle.std.specs.Prelude.{◌≡◌, ◌≢◌, ◌↔◌, ℕ, IsTrue, ◌<◌, ◌≤◌, pos, false, [], ◌∷◌, ◌++◌, length, OnOk, IfOk, IfErr, is_err, slice_index, slice_set, true};
+ghost use Rattle.std.specs.Prelude.{◌≡◌, ◌≢◌, ◌↔◌, ◌+◌, ℕ, IsTrue, ◌<◌, ◌≤◌, pos, false, [], ◌∷◌, ◌++◌, length, OnOk, IfOk, IfErr, is_err, slice_index, slice_set, true};
+ghost use Rattle.bl_limits.specs.declared.TheConstants.{MAX_COLUMNS, MAX_PROBLEM_ROWS};
 ghost use Rattle.bl_terms.specs.Bounds.{Fits};
 ghost use Rattle.bl_simplex.specs.Rationals.{fraction_at};
 ghost use Rattle.bl_simplex.specs.Fractions.{IsReduced};
@@ -76,6 +77,22 @@ impl<'p, 'a> Tableau<'p, 'a> {
             most,
             spent: false,
         })
+    }
+
+    /// How many columns the dictionary has, the column of right sides aside.
+    pub fn columns(&self) -> u32
+        ensures value { result ≡ columns self.now.problem }
+        ensures few { result ≤ MAX_COLUMNS }
+    {
+        self.column_labels.len() as u32
+    }
+
+    /// The number of the cost row, which comes after all others.
+    pub fn cost_row(&self) -> u32
+        ensures value { result ≡ cost_row self.now.problem }
+        ensures few { result ≤ MAX_PROBLEM_ROWS + MAX_COLUMNS }
+    {
+        (self.row_labels.len() - 1) as u32
     }
 
     /// The right side of a row; that of the cost row comes after all others.

@@ -1,0 +1,6 @@
+pub mod Orders
+pub mod Multiples
+pub mod Distances
+pub mod Points
+pub mod StepLaws
+pub mod Limits

@@ -1,0 +1,15 @@
+use Rattle.std.proofs.Common.{rules, ◌≡◌, ◌+◌, [], ◌∷◌, ◌++◌, length, ap, ◌∙◌, length-append}
+use Rattle.bl_relax.proofs.Steps.{goes_on}
+use Rattle.bl_relax.proofs.relaxation.take_pivot.Goals as goal
+
+pub returns-in-Ok : goal.returns-in-Ok
+returns-in-Ok c =
+    let run = c.args.tableau.now in
+    let p = c.in-Some.pivot in
+    let may = c.may_pivot.ensures.0 (search rules) in
+    let e = c.in-Ok.ensures.recorded in
+    record {
+      run = goes_on c.args.problem.now c.args.cutoff run c.pivot.new.self p c.requires.run may c.in-Ok.ensures.ok e;
+      count = ap (λ r. length r.pivots) e ∙ length-append run.pivots (p ∷ []);
+      most = ap (λ r. r.most) e;
+    }

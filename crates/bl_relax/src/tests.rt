@@ -1,0 +1,122 @@
+//! Worked relaxations, found by hand.
+ghost use Rattle.std.specs.Prelude.{◌≡◌, length, IfOk};
+ghost use Rattle.bl_terms.specs.Points.{IsArea};
+
+use super::*;
+use bl_bound::Problem;
+use std::alloc::{AllocError, Global};
+use std::process::Abort;
+use std::test::Fail;
+
+fn answer(
+    rt: &impl Abort,
+    alloc: Global,
+    problem: &Problem<'_>,
+    cutoff: Option<i64>,
+) -> Result<Option<Relaxed>, AllocError> {
+    assert!(rt; problem.fits());
+    attempt(alloc, problem, cutoff)
+}
+
+// Minimise -X - 10Y for X and Y from 0 to 10 (Moore and Bard 1990).
+fn moore_bard<'a>(
+    alloc: Global,
+    cost: &'a [i64; 2],
+    lo: &'a [i64; 2],
+    hi: &'a [i64; 2],
+    coefs: &'a [[i64; 2]; 4],
+) -> Result<Problem<'a>, AllocError>
+    requires { IsArea (record { lo = lo.now; hi = hi.now }) }
+    ensures { IfOk result (λ p. length p.area.lo ≡ 2) }
+{
+    let mut problem = Problem::start(alloc, cost, lo, hi);
+    problem.row(&coefs[0], 30)?;
+    problem.row(&coefs[1], 10)?;
+    problem.row(&coefs[2], 15)?;
+    problem.row(&coefs[3], -15)?;
+    Ok(problem)
+}
+
+#[test]
+fn a_vertex_and_its_proof(rt: HostRuntime) -> Result<(), Fail> {
+    let (cost, lo, hi) = ([-1, -10], [0, 0], [10, 10]);
+    let coefs = [[-25, 20], [1, 2], [2, -1], [-2, -10]];
+    let problem = moore_bard(rt.alloc(), &cost, &lo, &hi, &coefs)?;
+    match answer(&rt, rt.alloc(), &problem, None)? {
+        Some(Relaxed::Whole(point)) => assert_eq!(rt; point.as_slice(), [2, 4].as_slice()),
+        _ => assert!(rt; false),
+    }
+    let closed = answer(&rt, rt.alloc(), &problem, Some(-42))?;
+    assert!(rt; matches!(closed, Some(Relaxed::Closed(_))));
+    Ok(())
+}
+
+// Six rows p·X >= 1 with large primes and near primes: the sum of the six reciprocals passes 128 bits.
+fn reciprocals<'a>(
+    alloc: Global,
+    cost: &'a [i64; 7],
+    lo: &'a [i64; 7],
+    hi: &'a [i64; 7],
+    coefs: &'a [[i64; 7]],
+) -> Result<Problem<'a>, AllocError>
+    requires { IsArea (record { lo = lo.now; hi = hi.now }) }
+    ensures { IfOk result (λ p. length p.area.lo ≡ 7) }
+{
+    let mut problem = Problem::start(alloc, cost, lo, hi);
+    for coef in coefs {
+        problem.row(coef, -1)?;
+    }
+    Ok(problem)
+}
+
+#[test]
+fn the_sixth_pivot_is_wide(rt: HostRuntime) -> Result<(), Fail> {
+    let (cost, lo, hi) = ([1, 1, 1, 1, 1, 1, 0], [0; 7], [1; 7]);
+    let coefs = [
+        [-9_999_999, 0, 0, 0, 0, 0, 0],
+        [0, -9_999_998, 0, 0, 0, 0, 0],
+        [0, 0, -9_999_997, 0, 0, 0, 0],
+        [0, 0, 0, -9_999_995, 0, 0, 0],
+        [0, 0, 0, 0, -9_999_991, 0, 0],
+        [0, 0, 0, 0, 0, -9_999_989, 0],
+    ];
+    let problem = reciprocals(rt.alloc(), &cost, &lo, &hi, &coefs)?;
+    match answer(&rt, rt.alloc(), &problem, None)? {
+        Some(
+            Relaxed::Stuck(
+                Why::Wide {
+                    pivots,
+                    row,
+                    column,
+                },
+            ),
+        ) => {
+            assert_eq!(rt; pivots.as_slice().len(), 6);
+            assert_eq!(rt; (row, column), (13, 7));
+        }
+        _ => assert!(rt; false),
+    }
+    Ok(())
+}
+
+// Minimise -x for x from 0 to 3 where 2x <= 3: rounding finds 1 without a cutoff, and below -1 nothing is left.
+#[test]
+fn a_fractional_optimum(rt: HostRuntime) -> Result<(), Fail> {
+    let (cost, lo, hi, coef) = ([-1], [0], [3], [2]);
+    let mut problem = Problem::start(rt.alloc(), &cost, &lo, &hi);
+    problem.row(&coef, 3)?;
+    let rounded = answer(&rt, rt.alloc(), &problem, None)?;
+    assert!(rt; matches!(rounded, Some(Relaxed::Whole(_))));
+    let closed = answer(&rt, rt.alloc(), &problem, Some(-1))?;
+    assert!(rt; matches!(closed, Some(Relaxed::Closed(_))));
+    // Minimise -x - y where 2x + 2y <= 3 and 2x - 2y = 1: x = 1, y = 1/2.
+    let (cost, lo, hi) = ([-1, -1], [0, 0], [3, 3]);
+    let coefs = [[2, 2], [2, -2], [-2, 2]];
+    let mut slanted = Problem::start(rt.alloc(), &cost, &lo, &hi);
+    slanted.row(&coefs[0], 3)?;
+    slanted.row(&coefs[1], 1)?;
+    slanted.row(&coefs[2], -1)?;
+    let stuck = answer(&rt, rt.alloc(), &slanted, None)?;
+    assert!(rt; matches!(stuck, Some(Relaxed::Stuck(Why::Fraction(_)))));
+    Ok(())
+}
