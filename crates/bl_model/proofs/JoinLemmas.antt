@@ -71,4 +71,5 @@ pub program_made : (mps : RawMps) (aux : RawAux) (q : Parts) → AreParts mps au
     } ≡ program_of mps aux
 unfolding program_of
 program_made mps aux q are =
-    rw (are.links, are.lo, are.hi, are.rows, are.cost, are.follower_cost, are.follower, are.sense, are.leader_sense) refl
+    rw (are.links, are.lo, are.hi, are.rows, are.cost, are.follower_cost, are.follower, are.sense, are.leader_sense)
+    refl

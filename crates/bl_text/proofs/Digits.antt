@@ -28,7 +28,8 @@ pub record IsStep (digits : List ℕ) (i : ℕ) : Type 0 where
   pub value : digits_value 10 (take (i + 1) digits) ≡ 10 * digits_value 10 (take i digits) + (get_or digits i 0 - 48)
   pub small : digits_value 10 (take (i + 1) digits) < 10 ^ 19
 
-pub digits_step : (digits : List ℕ) (i : ℕ) → AllDigits 10 digits → i < length digits → length digits ≤ 19 → IsStep digits i
+pub digits_step : (digits : List ℕ) (i : ℕ) → AllDigits 10 digits → i < length digits → length digits ≤ 19
+    → IsStep digits i
 digits_step digits i h lt few =
     let range = digit_at digits i h lt in
     let more = digits_value_more 10 digits i lt in
@@ -36,7 +37,8 @@ digits_step digits i h lt few =
     record {
       is_digit = range.0;
       value = omega (arith, more, digit);
-      small = digits_value-lt_19 (take (i + 1) digits) (AllDigits-take (i + 1) digits h) (omega (arith, length-take (i + 1) digits));
+      small = digits_value-lt_19 (take (i + 1) digits) (AllDigits-take (i + 1) digits h)
+          (omega (arith, length-take (i + 1) digits));
     }
 
 pub and_true : (a b : Bool) → (a && b) ≡ true → (a ≡ true) × (b ≡ true)
@@ -58,4 +60,5 @@ AllDigits-from_test (d ∷ ds) h =
 
 pub test-from_AllDigits : (digits : List ℕ) → AllDigits 10 digits → list_all is_ascii_digit digits ≡ true
 test-from_AllDigits [] h = refl
-test-from_AllDigits (d ∷ ds) h = let range = digit_at (d ∷ ds) 0 h (omega arith) in rw (le-leb 48 d range.0, le-leb d 57 range.1) (test-from_AllDigits ds h.1)
+test-from_AllDigits (d ∷ ds) h = let range = digit_at (d ∷ ds) 0 h (omega arith) in
+    rw (le-leb 48 d range.0, le-leb d 57 range.1) (test-from_AllDigits ds h.1)

@@ -14,10 +14,12 @@ lines_of-last [] h = refl
 lines_of-last (b ∷ []) h = rw (h.0) refl
 lines_of-last (b ∷ c ∷ bs) h = rw (h.0, lines_of-last (c ∷ bs) h.1) refl
 
-lines_of-ended : (lines : List (List ℕ)) (rest : List ℕ) → AllByRecursion IsLine lines → lines_of (flat_map ended lines ++ rest) ≡ lines ++ lines_of rest
+lines_of-ended : (lines : List (List ℕ)) (rest : List ℕ) → AllByRecursion IsLine lines
+    → lines_of (flat_map ended lines ++ rest) ≡ lines ++ lines_of rest
 lines_of-ended [] rest h = refl
 lines_of-ended (line ∷ lines) rest h =
-    ap lines_of (append_assoc (ended line) (flat_map ended lines) rest ∙ append_assoc line (10 ∷ []) (flat_map ended lines ++ rest))
+    ap lines_of (append_assoc (ended line) (flat_map ended lines) rest
+    ∙ append_assoc line (10 ∷ []) (flat_map ended lines ++ rest))
     ∙ lines_of-line line (flat_map ended lines ++ rest) h.0
     ∙ ap (λ (ls : List (List ℕ)). line ∷ ls) (lines_of-ended lines rest h.1)
 
@@ -42,14 +44,18 @@ Joins-byte b [] text (inr e) = absurd (empty-not-ended text e)
 Joins-byte b (line ∷ lines) text (inl e) = inl (ap (λ (t : List ℕ). b ∷ t) e)
 Joins-byte b (line ∷ lines) text (inr e) = inr (ap (λ (t : List ℕ). b ∷ t) e)
 
-onto_first-lines : (b : ℕ) (lines : List (List ℕ)) → eqb b 10 ≡ false → AllByRecursion IsLine lines → AllByRecursion IsLine (onto_first b lines)
+onto_first-lines : (b : ℕ) (lines : List (List ℕ)) → eqb b 10 ≡ false → AllByRecursion IsLine lines
+    → AllByRecursion IsLine (onto_first b lines)
 onto_first-lines b [] e h = ((e, tt), tt)
 onto_first-lines b (line ∷ lines) e h = ((e, h.0), h.1)
 
 -- one more byte at the front
-step : (b : ℕ) (text : List ℕ) (feed : Bool) → eqb b 10 ≡ feed → AllByRecursion IsLine (lines_of text) × Joins (lines_of text) text → AllByRecursion IsLine (lines_of (b ∷ text)) × Joins (lines_of (b ∷ text)) (b ∷ text)
+step : (b : ℕ) (text : List ℕ) (feed : Bool) → eqb b 10 ≡ feed
+    → AllByRecursion IsLine (lines_of text) × Joins (lines_of text) text
+    → AllByRecursion IsLine (lines_of (b ∷ text)) × Joins (lines_of (b ∷ text)) (b ∷ text)
 step b text true e h =
-    subst (λ (x : ℕ). AllByRecursion IsLine (lines_of (x ∷ text)) × Joins (lines_of (x ∷ text)) (x ∷ text)) (sym (eqb-true b 10 e)) ((tt, h.0), Joins-feed (lines_of text) text h.1)
+    subst (λ (x : ℕ). AllByRecursion IsLine (lines_of (x ∷ text)) × Joins (lines_of (x ∷ text)) (x ∷ text))
+    (sym (eqb-true b 10 e)) ((tt, h.0), Joins-feed (lines_of text) text h.1)
 step b text false e h = rw e (onto_first-lines b (lines_of text) e h.0, Joins-byte b (lines_of text) text h.1)
 
 pub is_its_lines : IsItsLines

@@ -87,4 +87,5 @@ pub returns : goal.returns
 returns c = made c
 
 pub costs-requires : goal.costs-requires
-costs-requires c = subst (All (λ r. IsSmall r.cost)) (sym c.as_slice-columns.ensures) (λ k d lt. (c.requires.mps.columns k d lt).cost)
+costs-requires c = subst (All (λ r. IsSmall r.cost)) (sym c.as_slice-columns.ensures)
+    (λ k d lt. (c.requires.mps.columns k d lt).cost)

@@ -7,4 +7,6 @@ digits_value-requires-clause-digits c = AllDigits-from_test c.args.digits.now (s
 
 pub returns-clause-small : goal.returns-clause-small
 returns-clause-small c = λ few.
-    rw c.digits_value.ensures (digits_value-lt_16 c.args.digits.now (AllDigits-from_test c.args.digits.now (sym c.if-not-are_digits.ensures)) (omega arith))
+    rw c.digits_value.ensures
+    (digits_value-lt_16 c.args.digits.now (AllDigits-from_test c.args.digits.now (sym c.if-not-are_digits.ensures))
+    (omega arith))
