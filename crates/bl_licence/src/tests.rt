@@ -1,6 +1,5 @@
 //! Worked licences, found by hand: for each kind one that holds, and one that fails by each of its conditions.
-ghost use Rattle.std.specs.Prelude.{◌≡◌, length, IfOk};
-ghost use Rattle.bl_terms.specs.Points.{IsArea};
+ghost use Rattle.std.specs.Prelude.{◌≡◌, length, OnOk};
 
 use super::*;
 use bl_bound::Problem;
@@ -76,28 +75,24 @@ fn fractional_points(rt: HostRuntime) -> Result<(), Fail> {
     Ok(())
 }
 
-// Rows p·X >= 1 with large primes and near primes: sums of the reciprocals soon have great denominators.
-fn reciprocals<'a>(
-    alloc: Global,
-    cost: &'a [i64; 7],
-    lo: &'a [i64; 7],
-    hi: &'a [i64; 7],
-    coefs: &'a [[i64; 7]],
-) -> Result<Problem<'a>, AllocError>
-    requires { IsArea (record { lo = lo.now; hi = hi.now }) }
-    ensures { IfOk result (λ p. length p.area.lo ≡ 7) }
+// Three rows p·X >= 1 with large primes and near primes: sums of the reciprocals soon have great denominators.
+fn add_rows<'a>(problem: &mut Problem<'a>, coefs: &'a [[i64; 7]; 3]) -> Result<(), AllocError>
+    requires { length problem.old.area.lo ≡ 7 }
+    ensures { OnOk result (length problem.new.area.lo ≡ 7) }
 {
-    let mut problem = Problem::start(alloc, cost, lo, hi);
-    for coef in coefs {
-        problem.row(coef, -1)?;
-    }
-    Ok(problem)
+    problem.row(&coefs[0], -1)?;
+    problem.row(&coefs[1], -1)?;
+    problem.row(&coefs[2], -1)?;
+    Ok(())
 }
 
-const PRIMES: [[i64; 7]; 6] = [
+const FIRST: [[i64; 7]; 3] = [
     [-9_999_999, 0, 0, 0, 0, 0, 0],
     [0, -9_999_998, 0, 0, 0, 0, 0],
     [0, 0, -9_999_997, 0, 0, 0, 0],
+];
+
+const SECOND: [[i64; 7]; 3] = [
     [0, 0, 0, -9_999_995, 0, 0, 0],
     [0, 0, 0, 0, -9_999_991, 0, 0],
     [0, 0, 0, 0, 0, -9_999_989, 0],
@@ -105,74 +100,96 @@ const PRIMES: [[i64; 7]; 6] = [
 
 const DIAGONAL: [(u32, u32); 6] = [(0, 0), (1, 1), (2, 2), (3, 3), (4, 4), (5, 5)];
 
+fn is_wide(
+    rt: &impl Abort,
+    alloc: Global,
+    problem: &Problem<'_>,
+    cutoff: Option<i64>,
+    list: &[(u32, u32)],
+    place: (u32, u32),
+) -> Result<bool, AllocError> {
+    let why = Why::Wide {
+        pivots: pivots(alloc, list)?,
+        row: place.0,
+        column: place.1,
+    };
+    is_licensed(rt, alloc, problem, cutoff, &why)
+}
+
 #[test]
 fn runs_past_the_width(rt: HostRuntime) -> Result<(), Fail> {
     let (cost, lo, hi) = ([1, 1, 1, 1, 1, 1, 0], [0; 7], [1; 7]);
-    let problem = reciprocals(rt.alloc(), &cost, &lo, &hi, &PRIMES)?;
+    let (first, second) = (FIRST, SECOND);
+    let mut problem = Problem::start(rt.alloc(), &cost, &lo, &hi);
+    add_rows(&mut problem, &first)?;
+    add_rows(&mut problem, &second)?;
     let turned = [(5, 5), (4, 4), (3, 3), (2, 2), (1, 1), (0, 0)];
     let illegal = [(0, 0), (1, 1), (2, 2), (3, 3), (4, 4), (5, 6)];
     let outside = [(0, 0), (1, 1), (2, 2), (3, 3), (4, 4), (5, 7)];
-    let table: [(Option<i64>, &[(u32, u32)], u32, u32, bool); 11] = [
-        (None, &DIAGONAL, 13, 7, true),
-        (Some(2), &DIAGONAL, 13, 7, true),
-        (None, &turned, 13, 7, true),
+    let table: [(Option<i64>, &[(u32, u32)], (u32, u32), bool); 11] = [
+        (None, &DIAGONAL, (13, 7), true),
+        (Some(2), &DIAGONAL, (13, 7), true),
+        (None, &turned, (13, 7), true),
         // After the first pivot the cost is above 0.
-        (Some(1), &DIAGONAL, 13, 7, false),
-        (None, &DIAGONAL, 13, 6, false),
-        (None, &DIAGONAL, 14, 0, false),
-        (None, &DIAGONAL[..5], 13, 7, false),
-        (None, &DIAGONAL[1..], 13, 7, false),
-        (None, &illegal, 13, 7, false),
-        (None, &outside, 13, 7, false),
-        (None, &[], 13, 7, false),
+        (Some(1), &DIAGONAL, (13, 7), false),
+        (None, &DIAGONAL, (13, 6), false),
+        (None, &DIAGONAL, (14, 0), false),
+        (None, &DIAGONAL[..5], (13, 7), false),
+        (None, &DIAGONAL[1..], (13, 7), false),
+        (None, &illegal, (13, 7), false),
+        (None, &outside, (13, 7), false),
+        (None, &[], (13, 7), false),
     ];
-    for (cutoff, list, row, column, expected) in table {
-        let pivots = pivots(rt.alloc(), list)?;
-        let why = Why::Wide {
-            pivots,
-            row,
-            column,
-        };
+    for (cutoff, list, place, expected) in table {
         assert_eq!(rt;
-            is_licensed(&rt, rt.alloc(), &problem, cutoff, &why)?,
+            is_wide(&rt, rt.alloc(), &problem, cutoff, list, place)?,
             expected
         );
     }
     Ok(())
 }
 
+fn is_large(
+    rt: &impl Abort,
+    alloc: Global,
+    problem: &Problem<'_>,
+    cutoff: Option<i64>,
+    list: &[(u32, u32)],
+) -> Result<bool, AllocError> {
+    let why = Why::Large {
+        pivots: pivots(alloc, list)?,
+    };
+    is_licensed(rt, alloc, problem, cutoff, &why)
+}
+
 #[test]
-fn runs_past_the_proof_numbers(rt: HostRuntime) -> Result<(), Fail> {
-    let (lo, hi) = ([0; 7], [1; 7]);
-    let cheap = [1, 1, 1, 1, 1, 1, 0];
-    let point = reciprocals(rt.alloc(), &cheap, &lo, &hi, &PRIMES[..3])?;
-    // Each pivot adds a little less than 1 to the cost, so that the third one passes 2.
-    let dear = [9_999_998, 9_999_997, 9_999_996, 0, 0, 0, 0];
-    let proof = reciprocals(rt.alloc(), &dear, &lo, &hi, &PRIMES[..3])?;
-    let table: [(&Problem<'_>, Option<i64>, &[(u32, u32)], bool); 8] = [
-        (&point, None, &DIAGONAL[..3], true),
-        (&point, Some(2), &DIAGONAL[..3], true),
-        (&point, Some(1), &DIAGONAL[..3], false),
-        (&point, None, &DIAGONAL[..2], false),
-        (&point, None, &[], false),
-        (&proof, Some(3), &DIAGONAL[..3], true),
-        (&proof, Some(2), &DIAGONAL[..3], false),
-        // The numbers of two reciprocals fit.
-        (&proof, Some(2), &DIAGONAL[..2], false),
-    ];
-    for (problem, cutoff, list, expected) in table {
-        let why = Why::Large {
-            pivots: pivots(rt.alloc(), list)?,
-        };
-        assert_eq!(rt;
-            is_licensed(&rt, rt.alloc(), problem, cutoff, &why)?,
-            expected
-        );
-    }
+fn runs_to_a_point_past_the_limit(rt: HostRuntime) -> Result<(), Fail> {
+    let (cost, lo, hi, first) = ([1, 1, 1, 1, 1, 1, 0], [0; 7], [1; 7], FIRST);
+    let mut problem = Problem::start(rt.alloc(), &cost, &lo, &hi);
+    add_rows(&mut problem, &first)?;
+    assert!(rt; is_large(&rt, rt.alloc(), &problem, None, &DIAGONAL[..3])?);
+    assert!(rt; is_large(&rt, rt.alloc(), &problem, Some(2), &DIAGONAL[..3])?);
+    assert!(rt; !is_large(&rt, rt.alloc(), &problem, Some(1), &DIAGONAL[..3])?);
+    assert!(rt; !is_large(&rt, rt.alloc(), &problem, None, &DIAGONAL[..2])?);
+    assert!(rt; !is_large(&rt, rt.alloc(), &problem, None, &[])?);
     let tired = Why::Tired {
         pivots: pivots(rt.alloc(), &DIAGONAL[..3])?,
     };
-    assert!(rt; !is_licensed(&rt, rt.alloc(), &point, None, &tired)?);
+    assert!(rt; !is_licensed(&rt, rt.alloc(), &problem, None, &tired)?);
+    Ok(())
+}
+
+// Each pivot adds a little less than 1 to the cost, so that the third one passes 2.
+#[test]
+fn runs_to_a_proof_past_the_limit(rt: HostRuntime) -> Result<(), Fail> {
+    let cost = [9_999_998, 9_999_997, 9_999_996, 0, 0, 0, 0];
+    let (lo, hi, first) = ([0; 7], [1; 7], FIRST);
+    let mut problem = Problem::start(rt.alloc(), &cost, &lo, &hi);
+    add_rows(&mut problem, &first)?;
+    assert!(rt; is_large(&rt, rt.alloc(), &problem, Some(3), &DIAGONAL[..3])?);
+    assert!(rt; !is_large(&rt, rt.alloc(), &problem, Some(2), &DIAGONAL[..3])?);
+    // The numbers of two reciprocals fit.
+    assert!(rt; !is_large(&rt, rt.alloc(), &problem, Some(2), &DIAGONAL[..2])?);
     Ok(())
 }
 

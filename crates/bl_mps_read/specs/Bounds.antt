@@ -1,5 +1,5 @@
 -- The bounds of the columns, one line after the other.
-use Rattle.std.specs.Prelude.{◌≤◌, IfSome, unsigned_abs, ℕ, ℤ, pos, Bool, true, false, ◌||◌, List, Option, Some, None, Result, Ok, Err, position, slice_index_or, slice_set, unwrap_or}
+use Rattle.std.specs.Prelude.{◌≤◌, IfSome, unsigned_abs, ℤ, pos, Bool, true, false, ◌||◌, List, Option, Some, None, Result, Ok, position, slice_index_or, slice_set, unwrap_or}
 use Rattle.std.specs.Option.{ok_or}
 use Rattle.std.specs.Str.{bytes_eq}
 use Rattle.bl_limits.specs.declared.TheConstants.{MAX_NUMBER}

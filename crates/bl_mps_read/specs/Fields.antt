@@ -1,5 +1,5 @@
 -- The fields of data lines by their number.
-use Rattle.std.specs.Prelude.{Bool, false, ◌&&◌, List, [], ◌∷◌, Option, Some, None, codes}
+use Rattle.std.specs.Prelude.{List, [], ◌∷◌, Option, Some, None}
 use Rattle.std.specs.Option.{option_map}
 use Rattle.bl_mps_terms.specs.Words.{Bytes}
 

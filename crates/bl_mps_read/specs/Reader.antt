@@ -1,5 +1,5 @@
 -- The lines of a text, one after the other.
-use Rattle.std.specs.Prelude.{◌≡◌, ℕ, ◌+◌, ◌++◌, Bool, true, false, List, [], ◌∷◌, Option, Some, None, Result, Ok, Err, ℤ, length, is_some, if◌then◌else◌}
+use Rattle.std.specs.Prelude.{◌≡◌, ℕ, ◌+◌, ◌++◌, Bool, List, [], ◌∷◌, Option, Some, None, Result, Ok, Err, ℤ, length, is_some, if◌then◌else◌}
 use Rattle.std.specs.Option.{ok_or}
 use Rattle.bl_limits.specs.declared.TheConstants.{MAX_TEXT_RHS}
 use Rattle.bl_text.specs.Fields.{fields_of}

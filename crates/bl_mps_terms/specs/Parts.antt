@@ -1,6 +1,6 @@
 -- An MPS text as its sections: which lines begin one, and which lines stand under one. Trusted.
-use Rattle.std.specs.Prelude.{ℕ, Bool, true, false, not, ◌&&◌, ◌||◌, ◌==◌, List, [], ◌∷◌, ◌++◌, Option, Some, None, length, slice_index_or, take, drop, if◌then◌else◌}
-use Rattle.std.specs.Option.{option_to_list, option_map}
+use Rattle.std.specs.Prelude.{ℕ, Bool, false, not, ◌&&◌, ◌||◌, ◌==◌, List, [], ◌∷◌, ◌++◌, Option, Some, None, length, slice_index_or, take, drop, if◌then◌else◌}
+use Rattle.std.specs.Option.{option_to_list}
 use Rattle.std.specs.List.{list_any, take_while}
 use Rattle.bl_text.specs.Fields.{fields_of, is_blank}
 use Rattle.bl_mps_terms.specs.declared.words.Section.{Section}

@@ -21,7 +21,8 @@ inside_within q z f inside = record {
 }
 
 -- where the coefficients are small enough, every part of their product with a point of the box fits 128 bits
-pub inside_dots_fit : (q : Problem) (cs z : List ℤ) (m : ℕ) → Fits q → InArea q.area z → AreWithin m cs → length cs ≡ length q.area.lo → m ≤ 2 ^ 36 → PartialDotsFit w128 cs z
+pub inside_dots_fit : (q : Problem) (cs z : List ℤ) (m : ℕ) → Fits q → InArea q.area z → AreWithin m cs
+    → length cs ≡ length q.area.lo → m ≤ 2 ^ 36 → PartialDotsFit w128 cs z
 inside_dots_fit q cs z m f inside small size most =
     let few = f.few_columns in
     dots_fit w128 {m = 2 ^ 36} (more small most) (inside_within q z f inside) (omega arith)

@@ -1,5 +1,5 @@
 //! Worked relaxations, found by hand.
-ghost use Rattle.std.specs.Prelude.{◌≡◌, length, IfOk};
+ghost use Rattle.std.specs.Prelude.{◌≡◌, length, IfOk, OnOk};
 ghost use Rattle.bl_terms.specs.Points.{IsArea};
 
 use super::*;
@@ -42,7 +42,8 @@ fn a_vertex_and_its_proof(rt: HostRuntime) -> Result<(), Fail> {
     let (cost, lo, hi) = ([-1, -10], [0, 0], [10, 10]);
     let coefs = [[-25, 20], [1, 2], [2, -1], [-2, -10]];
     let problem = moore_bard(rt.alloc(), &cost, &lo, &hi, &coefs)?;
-    match answer(&rt, rt.alloc(), &problem, None)? {
+    let whole = answer(&rt, rt.alloc(), &problem, None)?;
+    match &whole {
         Some(Relaxed::Whole(point)) => assert_eq!(rt; point.as_slice(), [2, 4].as_slice()),
         _ => assert!(rt; false),
     }
@@ -51,37 +52,20 @@ fn a_vertex_and_its_proof(rt: HostRuntime) -> Result<(), Fail> {
     Ok(())
 }
 
-// Six rows p·X >= 1 with large primes and near primes: the sum of the six reciprocals passes 128 bits.
-fn reciprocals<'a>(
-    alloc: Global,
-    cost: &'a [i64; 7],
-    lo: &'a [i64; 7],
-    hi: &'a [i64; 7],
-    coefs: &'a [[i64; 7]],
-) -> Result<Problem<'a>, AllocError>
-    requires { IsArea (record { lo = lo.now; hi = hi.now }) }
-    ensures { IfOk result (λ p. length p.area.lo ≡ 7) }
+// Three rows p·X >= 1 with large primes and near primes: the sum of six reciprocals passes 128 bits.
+fn add_rows<'a>(problem: &mut Problem<'a>, coefs: &'a [[i64; 7]; 3]) -> Result<(), AllocError>
+    requires { length problem.old.area.lo ≡ 7 }
+    ensures { OnOk result (length problem.new.area.lo ≡ 7) }
 {
-    let mut problem = Problem::start(alloc, cost, lo, hi);
-    for coef in coefs {
-        problem.row(coef, -1)?;
-    }
-    Ok(problem)
+    problem.row(&coefs[0], -1)?;
+    problem.row(&coefs[1], -1)?;
+    problem.row(&coefs[2], -1)?;
+    Ok(())
 }
 
-#[test]
-fn the_sixth_pivot_is_wide(rt: HostRuntime) -> Result<(), Fail> {
-    let (cost, lo, hi) = ([1, 1, 1, 1, 1, 1, 0], [0; 7], [1; 7]);
-    let coefs = [
-        [-9_999_999, 0, 0, 0, 0, 0, 0],
-        [0, -9_999_998, 0, 0, 0, 0, 0],
-        [0, 0, -9_999_997, 0, 0, 0, 0],
-        [0, 0, 0, -9_999_995, 0, 0, 0],
-        [0, 0, 0, 0, -9_999_991, 0, 0],
-        [0, 0, 0, 0, 0, -9_999_989, 0],
-    ];
-    let problem = reciprocals(rt.alloc(), &cost, &lo, &hi, &coefs)?;
-    match answer(&rt, rt.alloc(), &problem, None)? {
+// How many pivots were taken, and the place at which the last one passed 128 bits.
+fn wide_place(answer: &Option<Relaxed>) -> Option<(usize, u32, u32)> {
+    match answer {
         Some(
             Relaxed::Stuck(
                 Why::Wide {
@@ -90,12 +74,29 @@ fn the_sixth_pivot_is_wide(rt: HostRuntime) -> Result<(), Fail> {
                     column,
                 },
             ),
-        ) => {
-            assert_eq!(rt; pivots.as_slice().len(), 6);
-            assert_eq!(rt; (row, column), (13, 7));
-        }
-        _ => assert!(rt; false),
+        ) => Some((pivots.as_slice().len(), *row, *column)),
+        _ => None,
     }
+}
+
+#[test]
+fn the_sixth_pivot_is_wide(rt: HostRuntime) -> Result<(), Fail> {
+    let (cost, lo, hi) = ([1, 1, 1, 1, 1, 1, 0], [0; 7], [1; 7]);
+    let first = [
+        [-9_999_999, 0, 0, 0, 0, 0, 0],
+        [0, -9_999_998, 0, 0, 0, 0, 0],
+        [0, 0, -9_999_997, 0, 0, 0, 0],
+    ];
+    let second = [
+        [0, 0, 0, -9_999_995, 0, 0, 0],
+        [0, 0, 0, 0, -9_999_991, 0, 0],
+        [0, 0, 0, 0, 0, -9_999_989, 0],
+    ];
+    let mut problem = Problem::start(rt.alloc(), &cost, &lo, &hi);
+    add_rows(&mut problem, &first)?;
+    add_rows(&mut problem, &second)?;
+    let wide = answer(&rt, rt.alloc(), &problem, None)?;
+    assert_eq!(rt; wide_place(&wide), Some((6, 13, 7)));
     Ok(())
 }
 

@@ -1,10 +1,8 @@
-use Rattle.std.proofs.Common.{◌≡◌, ◌∙◌, ap, sym, ℤ, pos, Option, FitsSigned}
+use Rattle.std.proofs.Common.{◌≡◌, ◌∙◌, ap, ℤ, pos, Option, FitsSigned}
 use Rattle.std.specs.Prelude.{unwrap_or}
 use Rattle.std.specs.Int.{w64}
 use Rattle.std.proofs.Math.Facts.{to_z-of_z}
-use Rattle.bl_mps_model.specs.Model.{AreEntries}
 use Rattle.bl_mps_model.specs.Whole.{upper_in}
-use Rattle.bl_raw.specs.Raw.{IsSmall}
 use Rattle.bl_mps_model.proofs.Columns.{is_column}
 use Rattle.bl_mps_model.proofs.model.raw_column.Goals as goal
 

@@ -1,4 +1,4 @@
-use Rattle.std.proofs.Common.{sym, arith}
+use Rattle.std.proofs.Common.{arith}
 use Rattle.std.proofs.Math.Facts.{to_z-of_z}
 use Rattle.bl_mps_model.proofs.Tables.{faults_found, faults_more, faults_none}
 use Rattle.bl_mps_model.proofs.whole.bounds_faults.Goals as goal

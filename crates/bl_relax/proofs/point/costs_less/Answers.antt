@@ -9,4 +9,6 @@ pub dot_product-value-requires-clause-fits : goal.dot_product-value-requires-cla
 dot_product-value-requires-clause-fits c =
     let q = c.args.problem.now in
     let f = c.requires.problem_fits in
-    subst (λ xs. PartialDotsFit w128 xs c.args.point.now) (sym c.cost.ensures.value) (inside_dots_fit q q.cost c.args.point.now 10000000 f c.requires.inside f.costs f.shape.cost_columns (omega arith))
+    subst (λ xs. PartialDotsFit w128 xs c.args.point.now) (sym c.cost.ensures.value)
+    (inside_dots_fit q q.cost c.args.point.now 10000000 f c.requires.inside f.costs f.shape.cost_columns
+    (omega arith))

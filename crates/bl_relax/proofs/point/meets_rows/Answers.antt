@@ -13,6 +13,9 @@ dot_product-value-requires-clause-fits c =
     let f = c.requires.problem_fits in
     let i = c.loop-i.i in
     let within : i < length q.rows = omega (arith, ap length c.rows-rows.ensures.value) in
-    let row : c.index-rows-i.result ≡ linear_at q.rows i = get_or_read c.rows-rows.result.now i c.index-rows-i.result c.loop-i-test.true c.index-rows-i.is no_linear ∙ ap (λ rows. linear_at rows i) c.rows-rows.ensures.value in
+    let row : c.index-rows-i.result ≡ linear_at q.rows i =
+    get_or_read c.rows-rows.result.now i c.index-rows-i.result c.loop-i-test.true c.index-rows-i.is no_linear
+    ∙ ap (λ rows. linear_at rows i) c.rows-rows.ensures.value in
     subst (λ xs. PartialDotsFit w128 xs c.args.point.now) (sym (c.coef.ensures ∙ ap (λ r. r.coef) row))
-    (inside_dots_fit q (linear_at q.rows i).coef c.args.point.now MAX_PROBLEM_COEFFICIENT f c.requires.inside (f.coefs i within) (f.shape.row_columns i within) (omega arith))
+    (inside_dots_fit q (linear_at q.rows i).coef c.args.point.now MAX_PROBLEM_COEFFICIENT f c.requires.inside
+    (f.coefs i within) (f.shape.row_columns i within) (omega arith))

@@ -1,0 +1,2 @@
+-- Internal: the commands as clap has them.
+pub mod Apps
