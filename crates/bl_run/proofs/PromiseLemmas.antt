@@ -1,6 +1,6 @@
 -- That a cause excludes the others, and from how a command ended to its promise.
 use Rattle.std.proofs.Common.{◌≡◌, ℕ, ◌<◌, ◌≤◌, List, arith, refl, sym, ap, subst, ◌∙◌, ◌⊎◌, inl, inr, ⊎_elim, []}
-use Rattle.std.specs.Prelude.{ℤ, pos, Option, None, Some}
+use Rattle.std.specs.Prelude.{Bool, ℤ, Option, None, Some}
 use Rattle.bl_outer.specs.Files.{Files, IsAbsent, IfTold}
 use Rattle.bl_outer.specs.Sink.{SinkState}
 use Rattle.bl_limits.specs.declared.TheConstants.{MAX_WALK_POINTS}
@@ -9,18 +9,20 @@ use Rattle.bl_raw.specs.declared.raw.RawAux.{RawAux}
 use Rattle.bl_model.specs.Build.{program_of}
 use Rattle.bl_mps.proofs.OneModel.{has_one_reading}
 use Rattle.bl_mps_terms.specs.declared.fault.MpsFault.{MpsFault}
-use Rattle.bl_words.specs.declared.commands.Command.TheVariants.{Solve}
-use Rattle.bl_run.proofs.WordsLemmas.{says_once}
+use Rattle.bl_words.specs.declared.commands.Command.{Command}
+use Rattle.bl_words.specs.declared.commands.Command.TheVariants.{Solve, Show}
+use Rattle.bl_words.specs.Items.{AreModelWords}
+use Rattle.bl_run.proofs.WordsLemmas.{says_once, one_name}
 use Rattle.bl_aux.proofs.Meanings.{tells_one}
 use Rattle.bl_aux.specs.declared.fault.AuxFault.{AuxFault}
 use Rattle.bl_terms.specs.Programs.{root}
 use Rattle.bl_terms.specs.Trees.{point_count}
 use Rattle.bl_run.specs.declared.status.Answer.{Answer}
 use Rattle.bl_run.specs.declared.status.Answer.TheVariants as answer
-use Rattle.bl_run.specs.Words.{SolveWords, AreSolveWords, AreRefused}
+use Rattle.bl_run.specs.Words.{ModelWords, AreAsked, AreRefused}
 use Rattle.bl_run.specs.Texts.{IsMpsText, IsMpsFault, IsAuxText, IsAuxFault, IsNotYet, sizes, mps_rule, mps_place, aux_rule, line_place}
 use Rattle.bl_run.specs.Endings.{Place, AsWhole, Ending, Done, NoPoint, BadWords, BadText, NodesSpent, FollowerSpent, ReadFault, WriteFault, OutOfMemory, NotAccepted, Missing, ManyPoints, ToFile, ToOutput, status_of, line_of}
-use Rattle.bl_run.specs.Solve.{Run, program, HasMps, HasAux, ReadsBoth, ReadsMps, RefusesMps, RefusesAux, RefusesBox, RefusesText, IsMissing}
+use Rattle.bl_run.specs.Solve.{HasAux, HasMps, IsMissing, IsSmall, ReadsBoth, ReadsMps, RefusesAux, RefusesBox, RefusesMps, RefusesText, Run, program}
 use Rattle.bl_run.specs.Promise.{Outside, HasCause, ComesFirst, EndsInAnswer, IsDue, Tells, Promise}
 use Rattle.bl_run.specs.Steps.{answer_ending, EndsCommand}
 
@@ -28,16 +30,29 @@ some_is : (x y : List ℕ) → Some x ≡ Some y → x ≡ y
 some_is x y e = cc
 
 -- the words ask for one thing
-same_words : (a b : SolveWords) → a.mps ≡ b.mps → a.aux ≡ b.aux → a.default_upper ≡ b.default_upper → a ≡ b
-same_words a b mps aux upper =
-    ap (λ (name : List ℕ). record { mps = name; aux = a.aux; default_upper = a.default_upper }) mps
-    ∙ ap (λ (name : List ℕ). record { mps = b.mps; aux = name; default_upper = a.default_upper }) aux
-    ∙ ap (λ (z : ℤ). record { mps = b.mps; aux = b.aux; default_upper = z }) upper
+same_words : (a b : ModelWords) → a.command ≡ b.command → a.mps ≡ b.mps → a.aux ≡ b.aux
+    → a.default_upper ≡ b.default_upper → a ≡ b
+same_words a b command mps aux upper =
+    ap (λ (c : Command). record { command = c; mps = a.mps; aux = a.aux; default_upper = a.default_upper }) command
+    ∙ ap (λ (n : List ℕ). record { command = b.command; mps = n; aux = a.aux; default_upper = a.default_upper }) mps
+    ∙ ap (λ (n : List ℕ). record { command = b.command; mps = b.mps; aux = n; default_upper = a.default_upper }) aux
+    ∙ ap (λ (z : ℤ). record { command = b.command; mps = b.mps; aux = b.aux; default_upper = z }) upper
 
-one_command : (words : List (List ℕ)) (a b : SolveWords) → AreSolveWords words a → AreSolveWords words b → a ≡ b
-one_command words a b these those =
-    let same = says_once Solve words a.mps b.mps a.aux b.aux a.default_upper b.default_upper these those in
-    same_words a b same.0 same.1 same.2
+one_command : (does : Command → Bool) (words : List (List ℕ)) (a b : ModelWords)
+    → AreAsked does words a → AreAsked does words b → a ≡ b
+one_command does words a b these those =
+    let command =
+    one_name a.command b.command words a.mps b.mps a.aux b.aux a.default_upper b.default_upper these.1 those.1 in
+    let moved =
+    subst (λ (c : Command). AreModelWords c words b.mps b.aux b.default_upper) (sym command) those.1 in
+    let same =
+    says_once a.command words a.mps b.mps a.aux b.aux a.default_upper b.default_upper these.1 moved in
+    same_words a b command same.0 same.1 same.2
+
+-- a small box has few points
+few_of : (run : Run) (c : Command) → c ≡ Solve → IsSmall c run → point_count (root (program run)) ≤ MAX_WALK_POINTS
+few_of run Solve e h = h
+few_of run Show e h = cc
 
 -- a text says one model
 one_model : (default : ℤ) (text : List ℕ) (a b : RawMps)
@@ -80,10 +95,10 @@ one_box mps aux other = refl
 -- two runs of the same words over the same files
 module _ (files : Files) (run other : Run) (same : run.words ≡ other.words) where
   same_mps_name : run.words.mps ≡ other.words.mps
-  same_mps_name = ap (λ (w : SolveWords). w.mps) same
+  same_mps_name = ap (λ (w : ModelWords). w.mps) same
 
   same_aux_name : run.words.aux ≡ other.words.aux
-  same_aux_name = ap (λ (w : SolveWords). w.aux) same
+  same_aux_name = ap (λ (w : ModelWords). w.aux) same
 
   one_mps_text : HasMps (Some files) run → HasMps (Some files) other → run.mps_text ≡ other.mps_text
   one_mps_text h k = let e = same_mps_name in cc
@@ -98,7 +113,7 @@ module _ (files : Files) (run other : Run) (same : run.words ≡ other.words) wh
   aux_absent file h named k = let e = same_aux_name in cc
 
   same_default : run.words.default_upper ≡ other.words.default_upper
-  same_default = ap (λ (w : SolveWords). w.default_upper) same
+  same_default = ap (λ (w : ModelWords). w.default_upper) same
 
   mps_says : ReadsMps (Some files) run → HasMps (Some files) other
       → IsMpsText other.words.default_upper other.mps_text run.mps
@@ -125,8 +140,9 @@ module _ (files : Files) (run other : Run) (same : run.words ≡ other.words) wh
       k.fault.first
 
   box_unrefused : (file : List ℕ) (place : Place) (rule : List ℕ) → ReadsBoth (Some files) run
-      → point_count (root (program run)) ≤ MAX_WALK_POINTS → RefusesBox (Some files) other file place rule → ⊥
-  box_unrefused file place rule h few k =
+      → IsSmall run.words.command run → RefusesBox (Some files) other file place rule → ⊥
+  box_unrefused file place rule h small k =
+      let few = few_of run run.words.command (ap (λ (w : ModelWords). w.command) same ∙ k.solves) small in
       let large : MAX_WALK_POINTS < point_count (root (program_of run.mps other.aux)) =
       subst (λ (mps : RawMps). MAX_WALK_POINTS < point_count (root (program_of mps other.aux)))
       (sym (one_mps h.mps k.reads.mps)) k.large in
@@ -134,7 +150,7 @@ module _ (files : Files) (run other : Run) (same : run.words ≡ other.words) wh
 
   -- texts that are read aren't refused, and their files aren't missing
   unrefused : (file : List ℕ) (place : Place) (rule : List ℕ) → ReadsBoth (Some files) run
-      → point_count (root (program run)) ≤ MAX_WALK_POINTS → RefusesText (Some files) other file place rule → ⊥
+      → IsSmall run.words.command run → RefusesText (Some files) other file place rule → ⊥
   unrefused file place rule h few k =
       ⊎_elim (mps_unrefused file place rule h.mps)
       (λ later. ⊎_elim (aux_unrefused file place rule h) (box_unrefused file place rule h few) later) k
@@ -235,101 +251,103 @@ module _ (files : Files) (run other : Run) (same : run.words ≡ other.words) (f
       h.next
 
 -- what is due where a cause stands
-module _ (words : List (List ℕ)) (files : Files) where
-  due_answer : (run : Run) (ending : Ending) → EndsInAnswer ending → AreSolveWords words run.words
-      → ReadsBoth (Some files) run → point_count (root (program run)) ≤ MAX_WALK_POINTS → IsDue words ending files
+module _ (does : Command → Bool) (words : List (List ℕ)) (files : Files) where
+  due_answer : (run : Run) (ending : Ending) → EndsInAnswer ending → AreAsked does words run.words
+      → ReadsBoth (Some files) run → IsSmall run.words.command run → IsDue does words ending files
   due_answer run ending is asked reads few = record {
     refused = λ other file place rule named cause. absurd (unrefused files run other
-        (one_command words run.words other.words asked named) file place rule reads few cause);
+        (one_command does words run.words other.words asked named) file place rule reads few cause);
     missing = λ other file named cause. absurd (unmissed files run other
-        (one_command words run.words other.words asked named) file reads cause);
+        (one_command does words run.words other.words asked named) file reads cause);
     answered = λ other named read small. inl is;
   }
 
-  due_first : (ending : Ending) → ComesFirst ending → IsDue words ending files
+  due_first : (ending : Ending) → ComesFirst ending → IsDue does words ending files
   due_first ending is = record {
     refused = λ other file place rule named cause. inr is;
     missing = λ other file named cause. inr is;
     answered = λ other named read small. inr is;
   }
 
-  due_none : (ending : Ending) → AreRefused words → IsDue words ending files
+  due_none : (ending : Ending) → AreRefused does words → IsDue does words ending files
   due_none ending none = record {
     refused = λ other file place rule named cause. absurd (none other.words named);
     missing = λ other file named cause. absurd (none other.words named);
     answered = λ other named read small. absurd (none other.words named);
   }
 
-  due_refusal : (run : Run) (file : List ℕ) (place : Place) (rule : List ℕ) → AreSolveWords words run.words
-      → RefusesText (Some files) run file place rule → IsDue words (BadText file place rule) files
+  due_refusal : (run : Run) (file : List ℕ) (place : Place) (rule : List ℕ) → AreAsked does words run.words
+      → RefusesText (Some files) run file place rule → IsDue does words (BadText file place rule) files
   due_refusal run file place rule asked h = record {
     refused = λ other file' place' rule' named cause. inl (one_refusal files run other
-        (one_command words run.words other.words asked named) file file' place place' rule rule' h cause);
+        (one_command does words run.words other.words asked named) file file' place place' rule rule' h cause);
     missing = λ other file' named cause. absurd (refused_unmissed files run other
-        (one_command words run.words other.words asked named) file file' place rule h cause);
+        (one_command does words run.words other.words asked named) file file' place rule h cause);
     answered = λ other named read small. absurd (unrefused files other run
-        (one_command words other.words run.words named asked) file place rule read small h);
+        (one_command does words other.words run.words named asked) file place rule read small h);
   }
 
-  due_missing : (run : Run) (file : List ℕ) → AreSolveWords words run.words → IsMissing (Some files) run file
-      → IsDue words (Missing file) files
+  due_missing : (run : Run) (file : List ℕ) → AreAsked does words run.words → IsMissing (Some files) run file
+      → IsDue does words (Missing file) files
   due_missing run file asked h = record {
     refused = λ other file' place rule named cause. absurd (refused_unmissed files other run
-        (one_command words other.words run.words named asked) file' file place rule cause h);
+        (one_command does words other.words run.words named asked) file' file place rule cause h);
     missing = λ other file' named cause. inl (ap (λ (name : List ℕ). Missing name)
-        (one_missing files run other (one_command words run.words other.words asked named) file file' AsWhole
+        (one_missing files run other (one_command does words run.words other.words asked named) file file' AsWhole
         AsWhole [] [] h cause));
     answered = λ other named read small. absurd (unmissed files other run
-        (one_command words other.words run.words named asked) file read h);
+        (one_command does words other.words run.words named asked) file read h);
   }
 
-  due_at : (run : Run) (ending : Ending) → HasCause words (Some files) run ending → IsDue words ending files
-  due_at run Done h = due_answer run Done tt h.0 h.1.0.reads h.1.0.few
-  due_at run NoPoint h = due_answer run NoPoint tt h.0 h.1.0.reads h.1.0.few
+  due_at : (run : Run) (ending : Ending) → HasCause does words (Some files) run ending → IsDue does words ending files
+  due_at run Done h = due_answer run Done tt h.0 h.1.0.reads h.1.0.small
+  due_at run NoPoint h = due_answer run NoPoint tt h.0 h.1.0.reads h.1.0.small
   due_at run BadWords h = due_none BadWords h
   due_at run (BadText file place rule) h = due_refusal run file place rule h.0 h.1
   due_at run (NodesSpent budget made) h = absurd h.1
   due_at run (FollowerSpent budget made link) h = absurd h.1
   due_at run (ReadFault file) h = due_first (ReadFault file) tt
   due_at run (WriteFault (ToFile name)) h = absurd h.1
-  due_at run (WriteFault ToOutput) h = due_answer run (WriteFault ToOutput) tt h.0 h.1.reads h.1.few
+  due_at run (WriteFault ToOutput) h = due_answer run (WriteFault ToOutput) tt h.0 h.1.reads h.1.small
   due_at run OutOfMemory h = due_first OutOfMemory tt
   due_at run (NotAccepted file line rule) h = absurd h.1
   due_at run (Missing file) h = due_missing run file h.0 h.1
   due_at run (ManyPoints file) h = absurd h.1
 
-due : (words : List (List ℕ)) (files : Option Files) (run : Run) (ending : Ending) → HasCause words files run ending
-    → IfTold files (IsDue words ending)
-due words None run ending h = tt
-due words (Some files) run ending h = due_at words files run ending h
+due : (does : Command → Bool) (words : List (List ℕ)) (files : Option Files) (run : Run) (ending : Ending)
+    → HasCause does words files run ending
+    → IfTold files (IsDue does words ending)
+due does words None run ending h = tt
+due does words (Some files) run ending h = due_at does words files run ending h
 
 -- words that ask for nothing end so, or there is no memory
-refused : (words : List (List ℕ)) (files : Option Files) (run : Run) (ending : Ending)
-    → HasCause words files run ending → AreRefused words → (ending ≡ BadWords) ⊎ (ending ≡ OutOfMemory)
-refused words files run BadWords h none = inl refl
-refused words files run Done h none = absurd (none run.words h.0)
-refused words files run NoPoint h none = absurd (none run.words h.0)
-refused words files run (BadText file place rule) h none = absurd (none run.words h.0)
-refused words files run (NodesSpent budget made) h none = absurd (none run.words h.0)
-refused words files run (FollowerSpent budget made link) h none = absurd (none run.words h.0)
-refused words files run (ReadFault file) h none = absurd (none run.words h.0)
-refused words files run (WriteFault target) h none = absurd (none run.words h.0)
-refused words files run OutOfMemory h none = inr refl
-refused words files run (NotAccepted file line rule) h none = absurd (none run.words h.0)
-refused words files run (Missing file) h none = absurd (none run.words h.0)
-refused words files run (ManyPoints file) h none = absurd (none run.words h.0)
+refused : (does : Command → Bool) (words : List (List ℕ)) (files : Option Files) (run : Run) (ending : Ending)
+    → HasCause does words files run ending → AreRefused does words → (ending ≡ BadWords) ⊎ (ending ≡ OutOfMemory)
+refused does words files run BadWords h none = inl refl
+refused does words files run Done h none = absurd (none run.words h.0)
+refused does words files run NoPoint h none = absurd (none run.words h.0)
+refused does words files run (BadText file place rule) h none = absurd (none run.words h.0)
+refused does words files run (NodesSpent budget made) h none = absurd (none run.words h.0)
+refused does words files run (FollowerSpent budget made link) h none = absurd (none run.words h.0)
+refused does words files run (ReadFault file) h none = absurd (none run.words h.0)
+refused does words files run (WriteFault target) h none = absurd (none run.words h.0)
+refused does words files run OutOfMemory h none = inr refl
+refused does words files run (NotAccepted file line rule) h none = absurd (none run.words h.0)
+refused does words files run (Missing file) h none = absurd (none run.words h.0)
+refused does words files run (ManyPoints file) h none = absurd (none run.words h.0)
 
 -- from how a command ended to its promise
-pub promised : (words : List (List ℕ)) (old new : Outside) (old_err new_err : SinkState) (ending : Ending) (status : ℕ)
-    → EndsCommand words old new ending → status ≡ status_of ending → Tells (line_of ending) old_err new_err
-    → Promise words old new old_err new_err status
-promised words old new old_err new_err ending status ends is told = record {
+pub promised : (does : Command → Bool) (words : List (List ℕ)) (old new : Outside) (old_err new_err : SinkState)
+    (ending : Ending) (status : ℕ)
+    → EndsCommand does words old new ending → status ≡ status_of ending → Tells (line_of ending) old_err new_err
+    → Promise does words old new old_err new_err status
+promised does words old new old_err new_err ending status ends is told = record {
   run = ends.run;
   ending = ending;
   status_is = is;
   cause = ends.cause;
-  refused = refused words old.files.contents ends.run ending ends.cause;
-  due = due words old.files.contents ends.run ending ends.cause;
+  refused = refused does words old.files.contents ends.run ending ends.cause;
+  due = due does words old.files.contents ends.run ending ends.cause;
   leaves = ends.leaves;
   told = told;
 }
@@ -338,3 +356,4 @@ promised words old new old_err new_err ending status ends is told = record {
 pub untold : (says : Answer) (err : SinkState) → Tells (line_of (answer_ending says)) err err
 untold answer.Optimal err = refl
 untold answer.Infeasible err = refl
+untold answer.Shown err = refl

@@ -69,4 +69,5 @@ program-columns mps aux = length-map mps.columns (λ c. c.lo)
 
 -- a default upper bound fits 64 bits
 pub upper_fits : (u : ℤ) → IsDefaultUpper u → FitsSigned w64 u
-upper_fits u h = let within : IsWithin MAX_NUMBER u = record { magnitude = h.1 } in fits_from_within w64 within (omega arith)
+upper_fits u h = let within : IsWithin MAX_NUMBER u = record { magnitude = h.1 } in fits_from_within w64 within
+    (omega arith)

@@ -1,13 +1,13 @@
 -- From the steps of `solve` to how it ended.
-use Rattle.std.proofs.Common.{◌≡◌, ℕ, suc, ◌<◌, ◌≤◌, List, [], length, replicate, arith, refl, sym, subst, ◌∙◌, inl, inr}
-use Rattle.std.specs.Prelude.{false, ℤ, true, nat_lt, pos, Option, None, Some, codes}
+use Rattle.std.proofs.Common.{ap, ◌≡◌, ℕ, suc, ◌<◌, List, [], length, replicate, arith, refl, sym, subst, ◌∙◌, inl, inr}
+use Rattle.std.specs.Prelude.{Bool, false, ℤ, true, nat_lt, pos, Option, None, Some, codes}
 use Rattle.std.proofs.lemmas.List.{length-replicate}
 use Rattle.bl_outer.specs.Count.{Grew}
 use Rattle.bl_outer.specs.Files.{Files, IfTold, Holds, IsAbsent, Told}
 use Rattle.bl_outer.specs.Shelf.{ShelfState, NoReadFault}
 use Rattle.bl_outer.specs.Text.{IsTruncated}
 use Rattle.bl_outer.specs.Sink.{SinkState, Adds, AddsPrefix}
-use Rattle.bl_limits.specs.declared.TheConstants.{MAX_TEXT_BYTES, MAX_WALK_POINTS}
+use Rattle.bl_limits.specs.declared.TheConstants.{MAX_TEXT_BYTES}
 use Rattle.bl_raw.specs.declared.raw.RawMps.{RawMps}
 use Rattle.bl_raw.specs.declared.raw.RawAux.{RawAux}
 use Rattle.bl_aux.specs.declared.fault.AuxRule.TheVariants.{TooLong}
@@ -15,21 +15,21 @@ use Rattle.bl_aux.specs.Texts.{too_long}
 use Rattle.bl_mps_terms.specs.declared.fault.MpsRule.TheVariants as mps
 use Rattle.bl_mps_terms.specs.Faults.{first_fault}
 use Rattle.std.proofs.lemmas.Bool.Decides.{nat_tests}
-use Rattle.bl_model.specs.Build.{program_of}
-use Rattle.bl_terms.specs.Programs.{root}
-use Rattle.bl_terms.specs.Trees.{point_count}
 use Rattle.bl_run.specs.declared.status.Answer.{Answer}
 use Rattle.bl_run.specs.declared.status.Answer.TheVariants as answer
 use Rattle.bl_run.specs.declared.status.Failure.{Failure}
 use Rattle.bl_run.specs.declared.status.Failure.TheVariants as failure
-use Rattle.bl_run.specs.Words.{SolveWords, AreSolveWords, AreRefused}
+use Rattle.bl_words.specs.declared.commands.Command.{Command}
+use Rattle.bl_words.specs.declared.commands.Command.TheVariants.{Solve, Show}
+use Rattle.bl_words.specs.Items.{AreModelWords}
+use Rattle.bl_run.specs.Words.{ModelWords, AreAsked, AreRefused, each_command, show_alone}
 use Rattle.bl_run.specs.Texts.{IsMpsText, IsMpsFault, IsAuxText, IsAuxFault}
 use Rattle.bl_run.specs.Report.{Statement}
 use Rattle.bl_run.specs.Report as report
 use Rattle.bl_run.specs.Endings.{Place, AsWhole, Ending, Done, NoPoint, BadWords, BadText, NodesSpent, FollowerSpent, ReadFault, WriteFault, OutOfMemory, NotAccepted, Missing, ManyPoints, ToOutput}
-use Rattle.bl_run.specs.Solve.{Run, ReadsBoth, ReadsMps, Solves, ending_of, IsCause}
-use Rattle.bl_run.specs.Promise.{Outside, HasCause, ReadFaultsAt, MissesAt, Leaves}
-use Rattle.bl_run.specs.Steps.{answer_ending, failure_ending, ReadsTo, HasText, FailsToRead, NoFault, IsTooLong, IsReport, FailsToSolve, Ends, EndsCommand}
+use Rattle.bl_run.specs.Solve.{Run, ReadsBoth, ReadsMps, IsSmall, IsRight, Finishes, printed_by, ending_by, IsCause}
+use Rattle.bl_run.specs.Promise.{Outside, HasCause, Prints, ReadFaultsAt, MissesAt, WriteFaultsAt, Leaves}
+use Rattle.bl_run.specs.Steps.{answer_ending, failure_ending, ReadsTo, HasText, FailsToRead, NoFault, IsTooLong, FailsToSolve, Ends, EndsCommand}
 
 -- there is a longer text than any limit
 some_longer : (limit : ℕ) → (text : List ℕ) × (limit < length text)
@@ -123,7 +123,7 @@ reads_then old middle new ending g h = record {
 }
 
 -- a run of which the words alone are known
-abbrev run_of : SolveWords → Run
+abbrev run_of : ModelWords → Run
 run_of asked = record {
   words = asked;
   mps_text = [];
@@ -184,7 +184,7 @@ named_absent : (files : Option Files) (name file : List ℕ) → file ≡ name �
     → IfTold files (λ told. IsAbsent told file)
 named_absent files name file e h = subst (λ (n : List ℕ). IfTold files (λ told. IsAbsent told n)) (sym e) h
 
-module _ (asked : SolveWords) (old new : ShelfState) (out : SinkState) where
+module _ (asked : ModelWords) (old new : ShelfState) (out : SinkState) where
   -- the words weren't those of a command
   pub ended_by : (run : Run) (failure : Failure) → run.words ≡ asked → IsUnwritten failure
       → IsCause old.contents run (failure_ending failure) → ReadsTo (failure_ending failure) old new
@@ -212,8 +212,9 @@ module _ (asked : SolveWords) (old new : ShelfState) (out : SinkState) where
       (record { next = inl why.0; absent = named_absent old.contents asked.mps file.now why.0 why.1 }) h
 
 -- the MPS text was read, and the auxiliary file wasn't
-module _ (asked : SolveWords) (old middle new : ShelfState) (out : SinkState) (mps : RawMps)
-    (read : HasText old.contents asked.mps (λ text. IsMpsText asked.default_upper text mps)) (quiet : ReadsTo Done old middle) where
+module _ (asked : ModelWords) (old middle new : ShelfState) (out : SinkState) (mps : RawMps)
+    (read : HasText old.contents asked.mps (λ text. IsMpsText asked.default_upper text mps))
+    (quiet : ReadsTo Done old middle) where
   abbrev read_run : Run
   read_run = record (run_of asked) { mps_text = read.text; mps = mps }
 
@@ -253,8 +254,9 @@ module _ (asked : SolveWords) (old middle new : ShelfState) (out : SinkState) (m
       (reads_then old middle new (failure_ending failure) quiet h)
 
 -- both texts were read
-module _ (asked : SolveWords) (old middle new : ShelfState) (mps : RawMps) (aux : RawAux)
-    (mps_read : HasText old.contents asked.mps (λ text. IsMpsText asked.default_upper text mps)) (quiet : ReadsTo Done old middle)
+module _ (asked : ModelWords) (old middle new : ShelfState) (mps : RawMps) (aux : RawAux)
+    (mps_read : HasText old.contents asked.mps (λ text. IsMpsText asked.default_upper text mps))
+    (quiet : ReadsTo Done old middle)
     (aux_read : HasText middle.contents asked.aux (λ text. IsAuxText mps text aux))
     (still : ReadsTo Done middle new) where
   abbrev both_run : Statement → Run
@@ -278,36 +280,50 @@ module _ (asked : SolveWords) (old middle new : ShelfState) (mps : RawMps) (aux 
   all_read : ReadsTo Done old new
   all_read = reads_then old middle new Done quiet still
 
+  -- there was no memory for the rest
+  pub memory_stops : (out : SinkState)
+      → Ends asked (record { files = old; out = out }) (record { files = new; out = out }) OutOfMemory
+  memory_stops out = ended_by asked old new out (both_run report.None) failure.Memory refl tt tt all_quiet
+    where
+      all_quiet : ReadsTo OutOfMemory old new
+      all_quiet = record { reads = all_read.reads; read_faults = all_read.read_faults; misses = all_read.misses }
+
   -- the model wasn't solved
-  pub solving_stops : (out : SinkState) (failure : Failure) → FailsToSolve asked.mps mps aux failure
+  pub solving_stops : (out : SinkState) (failure : Failure) → asked.command ≡ Solve
+      → FailsToSolve asked.mps mps aux failure
       → Ends asked (record { files = old; out = out }) (record { files = new; out = out }) (failure_ending failure)
-  solving_stops out failure.Words why = absurd why
-  solving_stops out (failure.Text file fault) why =
+  solving_stops out failure.Words solves why = absurd why
+  solving_stops out (failure.Text file fault) solves why =
       ended_by asked old new out (both_run report.None) (failure.Text file fault) refl tt
-      (inr (inr (record { named = why.0; reads = reads_both report.None; large = why.2; not_yet = why.1 })))
+      (inr (inr (record {
+        solves = solves;
+        named = why.0;
+        reads = reads_both report.None;
+        large = why.2;
+        not_yet = why.1;
+      })))
       (record { reads = all_read.reads; read_faults = all_read.read_faults; misses = all_read.misses })
-  solving_stops out (failure.ReadFault file) why = absurd why
-  solving_stops out failure.WriteFault why = absurd why
-  solving_stops out failure.Memory why =
-      ended_by asked old new out (both_run report.None) failure.Memory refl tt tt
-      (record { reads = all_read.reads; read_faults = all_read.read_faults; misses = all_read.misses })
-  solving_stops out (failure.Missing file) why = absurd why
+  solving_stops out (failure.ReadFault file) solves why = absurd why
+  solving_stops out failure.WriteFault solves why = absurd why
+  solving_stops out failure.Memory solves why = memory_stops out
+  solving_stops out (failure.Missing file) solves why = absurd why
 
-  module _ (out after : SinkState) (text : List ℕ) (says : Answer)
-      (few : point_count (root (program_of mps aux)) ≤ MAX_WALK_POINTS)
-      (told : IsReport mps.columns (program_of mps aux) says text) where
-    solved : Solves old.contents (both_run told.statement)
-    solved = record { reads = reads_both told.statement; few = few; right = told.right }
+  -- the command did its work
+  module _ (out after : SinkState) (statement : Statement) (text : List ℕ)
+      (small : IsSmall asked.command (both_run statement)) (right : IsRight asked.command (both_run statement))
+      (spelled : text ≡ printed_by asked.command (both_run statement)) where
+    finishes : Finishes old.contents (both_run statement)
+    finishes = record { reads = reads_both statement; small = small; right = right }
 
-    -- the report wasn't taken whole
+    -- what it prints wasn't taken whole
     pub printing_stops : Told (AddsPrefix text) out.bytes after.bytes → Grew out.faults after.faults
         → Ends asked (record { files = old; out = out }) (record { files = new; out = after }) (WriteFault ToOutput)
     printing_stops printed grew = record {
-      run = both_run told.statement;
+      run = both_run statement;
       words = refl;
-      cause = solved;
+      cause = finishes;
       leaves = record {
-        printed = subst (λ (t : List ℕ). Told (AddsPrefix t) out.bytes after.bytes) told.spelled printed;
+        printed = subst (λ (t : List ℕ). Told (AddsPrefix t) out.bytes after.bytes) spelled printed;
         read_faults = all_read.read_faults;
         misses = all_read.misses;
         write_faults = (grew, all_read.reads.write_faults);
@@ -315,91 +331,143 @@ module _ (asked : SolveWords) (old middle new : ShelfState) (mps : RawMps) (aux 
       };
     }
 
-    -- the report was printed
-    pub answered : Told (Adds text) out.bytes after.bytes → after.faults ≡ out.faults
+    -- what it prints was printed
+    pub answered : (says : Answer) → ending_by asked.command (both_run statement) ≡ answer_ending says
+        → Told (Adds text) out.bytes after.bytes → after.faults ≡ out.faults
         → Ends asked (record { files = old; out = out }) (record { files = new; out = after }) (answer_ending says)
-    answered printed same = at says told.same
+    answered says same printed unfaulted = at says same
       where
-        line : Told (Adds (report.report_of mps.columns (program_of mps aux) told.statement)) out.bytes after.bytes
-        line = subst (λ (t : List ℕ). Told (Adds t) out.bytes after.bytes) told.spelled printed
+        line : Told (Adds (printed_by asked.command (both_run statement))) out.bytes after.bytes
+        line = subst (λ (t : List ℕ). Told (Adds t) out.bytes after.bytes) spelled printed
 
-        at : (a : Answer) → ending_of told.statement ≡ answer_ending a
+        done : ending_by asked.command (both_run statement) ≡ Done
+            → Ends asked (record { files = old; out = out }) (record { files = new; out = after }) Done
+        done e = record {
+          run = both_run statement;
+          words = refl;
+          cause = (finishes, e);
+          leaves = record {
+            printed = line;
+            read_faults = all_read.read_faults;
+            misses = all_read.misses;
+            write_faults = (all_read.reads.write_faults, unfaulted);
+            files = all_read.reads.contents;
+          };
+        }
+
+        at : (a : Answer) → ending_by asked.command (both_run statement) ≡ answer_ending a
             → Ends asked (record { files = old; out = out }) (record { files = new; out = after }) (answer_ending a)
-        at answer.Optimal e = record {
-          run = both_run told.statement;
-          words = refl;
-          cause = (solved, e);
-          leaves = record {
-            printed = line;
-            read_faults = all_read.read_faults;
-            misses = all_read.misses;
-            write_faults = (all_read.reads.write_faults, same);
-            files = all_read.reads.contents;
-          };
-        }
+        at answer.Optimal e = done e
+        at answer.Shown e = done e
         at answer.Infeasible e = record {
-          run = both_run told.statement;
+          run = both_run statement;
           words = refl;
-          cause = (solved, e);
+          cause = (finishes, e);
           leaves = record {
             printed = line;
             read_faults = all_read.read_faults;
             misses = all_read.misses;
-            write_faults = (all_read.reads.write_faults, same);
+            write_faults = (all_read.reads.write_faults, unfaulted);
             files = all_read.reads.contents;
           };
         }
+
+-- no run, of which nothing is known
+no_run : Run
+no_run = run_of (record { command = Show; mps = []; aux = []; default_upper = pos 0 })
+
+left_alone : (ending : Ending) (outside : Outside) → Prints no_run ending outside.out.bytes outside.out.bytes
+    → ReadFaultsAt ending outside.files outside.files → MissesAt ending outside.files.misses outside.files.misses
+    → WriteFaultsAt ending outside outside → Leaves no_run ending outside outside
+left_alone ending outside printed reads misses writes =
+    record { printed = printed; read_faults = reads; misses = misses; write_faults = writes; files = refl }
 
 -- the words ask for nothing
-pub no_command : (words : List (List ℕ)) (outside : Outside) → AreRefused words
-    → EndsCommand words outside outside BadWords
-no_command words outside none = record {
-  run = run_of (record { mps = []; aux = []; default_upper = pos 0 });
+pub no_command : (does : Command → Bool) (words : List (List ℕ)) (outside : Outside) → AreRefused does words
+    → EndsCommand does words outside outside BadWords
+no_command does words outside none = record {
+  run = no_run;
   cause = none;
-  leaves = record {
-    printed = refl;
-    read_faults = record { read_faults = refl; faulted = refl };
-    misses = refl;
-    write_faults = (refl, refl);
-    files = refl;
-  };
+  leaves = left_alone BadWords outside refl (record { read_faults = refl; faulted = refl }) refl (refl, refl);
 }
 
 -- there was no memory to read the words
-pub no_memory : (words : List (List ℕ)) (outside : Outside) → EndsCommand words outside outside OutOfMemory
-no_memory words outside = record {
-  run = run_of (record { mps = []; aux = []; default_upper = pos 0 });
+pub no_memory : (does : Command → Bool) (words : List (List ℕ)) (outside : Outside)
+    → EndsCommand does words outside outside OutOfMemory
+no_memory does words outside = record {
+  run = no_run;
   cause = tt;
-  leaves = record {
-    printed = refl;
-    read_faults = record { read_faults = refl; faulted = refl };
-    misses = refl;
-    write_faults = (refl, refl);
-    files = refl;
-  };
+  leaves = left_alone OutOfMemory outside refl (record { read_faults = refl; faulted = refl }) refl (refl, refl);
 }
 
 -- the words ask for what was done
-caused : (words : List (List ℕ)) (files : Option Files) (run : Run) (ending : Ending) → AreSolveWords words run.words
-    → IsCause files run ending → HasCause words files run ending
-caused words files run Done asked h = (asked, h)
-caused words files run NoPoint asked h = (asked, h)
-caused words files run BadWords asked h = absurd h
-caused words files run (BadText file place rule) asked h = (asked, h)
-caused words files run (NodesSpent budget made) asked h = (asked, h)
-caused words files run (FollowerSpent budget made link) asked h = (asked, h)
-caused words files run (ReadFault file) asked h = (asked, h)
-caused words files run (WriteFault target) asked h = (asked, h)
-caused words files run OutOfMemory asked h = tt
-caused words files run (NotAccepted file line rule) asked h = (asked, h)
-caused words files run (Missing file) asked h = (asked, h)
-caused words files run (ManyPoints file) asked h = (asked, h)
+caused : (does : Command → Bool) (words : List (List ℕ)) (files : Option Files) (run : Run) (ending : Ending)
+    → AreAsked does words run.words → IsCause files run ending → HasCause does words files run ending
+caused does words files run Done asked h = (asked, h)
+caused does words files run NoPoint asked h = (asked, h)
+caused does words files run BadWords asked h = absurd h
+caused does words files run (BadText file place rule) asked h = (asked, h)
+caused does words files run (NodesSpent budget made) asked h = (asked, h)
+caused does words files run (FollowerSpent budget made link) asked h = (asked, h)
+caused does words files run (ReadFault file) asked h = (asked, h)
+caused does words files run (WriteFault target) asked h = (asked, h)
+caused does words files run OutOfMemory asked h = tt
+caused does words files run (NotAccepted file line rule) asked h = (asked, h)
+caused does words files run (Missing file) asked h = (asked, h)
+caused does words files run (ManyPoints file) asked h = (asked, h)
 
-pub command_ends : (words : List (List ℕ)) (asked : SolveWords) (old new : Outside) (ending : Ending)
-    → AreSolveWords words asked → Ends asked old new ending → EndsCommand words old new ending
-command_ends words asked old new ending these h = record {
+pub command_ends : (does : Command → Bool) (words : List (List ℕ)) (asked : ModelWords) (old new : Outside)
+    (ending : Ending) → AreAsked does words asked → Ends asked old new ending → EndsCommand does words old new ending
+command_ends does words asked old new ending these h = record {
   run = h.run;
-  cause = caused words old.files.contents h.run ending (subst (λ (w : SolveWords). AreSolveWords words w)
-      (sym h.words) these) h.cause;
+  cause =
+      caused does words old.files.contents h.run ending
+      (subst (λ (w : ModelWords). AreAsked does words w) (sym h.words) these) h.cause;
   leaves = h.leaves;
 }
+
+-- words that don't ask for `show` ask for nothing that it does
+pub unshown : (words : List (List ℕ))
+    → ((mps aux : List ℕ) (upper : ℤ) → AreModelWords Show words mps aux upper → ⊥) → AreRefused show_alone words
+unshown words none asked h = by_command asked.command h.0 h.1
+  where
+    by_command : (c : Command) → show_alone c ≡ true
+        → AreModelWords c words asked.mps asked.aux asked.default_upper → ⊥
+    by_command Solve e these = cc
+    by_command Show e these = none asked.mps asked.aux asked.default_upper these
+
+-- words that don't ask for `solve`, and what `show` alone does with them
+module _ (words : List (List ℕ))
+    (unsolved : (mps aux : List ℕ) (upper : ℤ) → AreModelWords Solve words mps aux upper → ⊥) where
+  none_asked : AreRefused show_alone words → AreRefused each_command words
+  none_asked none asked h = by_command asked.command refl h.1
+    where
+      by_command : (c : Command) → asked.command ≡ c
+          → AreModelWords asked.command words asked.mps asked.aux asked.default_upper → ⊥
+      by_command Solve e these =
+          unsolved asked.mps asked.aux asked.default_upper
+          (subst (λ (c : Command). AreModelWords c words asked.mps asked.aux asked.default_upper) e these)
+      by_command Show e these = none asked (ap show_alone e, these)
+
+  widened : (files : Option Files) (run : Run) (ending : Ending) → HasCause show_alone words files run ending
+      → HasCause each_command words files run ending
+  widened files run BadWords h = none_asked h
+  widened files run OutOfMemory h = tt
+  widened files run Done h = ((refl, h.0.1), h.1)
+  widened files run NoPoint h = ((refl, h.0.1), h.1)
+  widened files run (BadText file place rule) h = ((refl, h.0.1), h.1)
+  widened files run (NodesSpent budget made) h = ((refl, h.0.1), h.1)
+  widened files run (FollowerSpent budget made link) h = ((refl, h.0.1), h.1)
+  widened files run (ReadFault file) h = ((refl, h.0.1), h.1)
+  widened files run (WriteFault target) h = ((refl, h.0.1), h.1)
+  widened files run (NotAccepted file line rule) h = ((refl, h.0.1), h.1)
+  widened files run (Missing file) h = ((refl, h.0.1), h.1)
+  widened files run (ManyPoints file) h = ((refl, h.0.1), h.1)
+
+  pub shown_ends : (old new : Outside) (ending : Ending) → EndsCommand show_alone words old new ending
+      → EndsCommand each_command words old new ending
+  shown_ends old new ending h = record {
+    run = h.run;
+    cause = widened old.files.contents h.run ending h.cause;
+    leaves = h.leaves;
+  }

@@ -1,9 +1,10 @@
 -- Words ask a command for one thing at most.
-use Rattle.std.proofs.Common.{◌≡◌, ℕ, ◌<◌, ◌^◌, List, [], ◌∷◌, arith, sym, ap, subst, ◌∙◌}
+use Rattle.std.proofs.Common.{◌≡◌, ℕ, ◌<◌, ◌^◌, List, [], ◌∷◌, arith, sym, ap, subst, ◌∙◌, refl, length}
 use Rattle.std.specs.Prelude.{ℤ, pos, None, Some}
 use Rattle.std.specs.Fmt.{decimal}
 use Rattle.std.proofs.lemmas.Fmt.{decimal_injective}
 use Rattle.bl_words.specs.declared.commands.Command.{Command}
+use Rattle.bl_words.specs.declared.commands.Command.TheVariants.{Solve, Show}
 use Rattle.bl_words.specs.declared.commands.Choice.TheVariants.{DefaultUpper}
 use Rattle.bl_words.specs.Commands.{name_of}
 use Rattle.bl_words.specs.Items.{Item, texts_of, IsUpper, AreSpelled, AreModelWords}
@@ -59,3 +60,18 @@ says_once command words m n a b u v g h =
     (subst (λ (items : List Item). IsUpper (texts_of (Some DefaultUpper) items) u) items g.said.default_upper)
     h.said.default_upper in
     (files.0, files.1, upper)
+
+first_word : (a b : List ℕ) (r t : List (List ℕ)) → a ∷ r ≡ b ∷ t → a ≡ b
+first_word a b r t e = cc
+
+-- words are those of one command
+pub one_name : (c d : Command) (words : List (List ℕ)) (m n a b : List ℕ) (u v : ℤ)
+    → AreModelWords c words m a u → AreModelWords d words n b v → c ≡ d
+one_name Solve Solve words m n a b u v g h = refl
+one_name Show Show words m n a b u v g h = refl
+one_name Solve Show words m n a b u v g h =
+    let e = first_word (name_of Solve) (name_of Show) g.rest h.rest (sym g.begins ∙ h.begins) in
+    absurd (omega (arith, ap (λ (w : List ℕ). length w) e))
+one_name Show Solve words m n a b u v g h =
+    let e = first_word (name_of Show) (name_of Solve) g.rest h.rest (sym g.begins ∙ h.begins) in
+    absurd (omega (arith, ap (λ (w : List ℕ). length w) e))

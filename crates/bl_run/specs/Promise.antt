@@ -1,15 +1,13 @@
 -- Trusted: all that a top call promises of its words, its files and its outputs.
-use Rattle.std.specs.Prelude.{◌≡◌, ◌⊎◌, ℕ, ◌≤◌, List, Option, None, Some, ⊤}
+use Rattle.std.specs.Prelude.{◌≡◌, ◌⊎◌, ℕ, Bool, List, Option, None, Some, ⊤}
 use Rattle.bl_outer.specs.Count.{Grew}
 use Rattle.bl_outer.specs.Files.{Files, IfTold, Told}
 use Rattle.bl_outer.specs.Shelf.{ShelfState, FaultsOn, NoReadFault}
 use Rattle.bl_outer.specs.Sink.{SinkState, Adds, AddsPrefix}
-use Rattle.bl_terms.specs.Programs.{root}
-use Rattle.bl_terms.specs.Trees.{point_count}
-use Rattle.bl_run.specs.Words.{AreSolveWords, AreRefused}
+use Rattle.bl_words.specs.declared.commands.Command.{Command}
+use Rattle.bl_run.specs.Words.{AreAsked, AreRefused}
 use Rattle.bl_run.specs.Endings.{Place, ToFile, ToOutput, Ending, Done, NoPoint, BadWords, BadText, ReadFault, WriteFault, OutOfMemory, Missing, status_of, line_of}
-use Rattle.bl_run.specs.Solve.{Run, program, report, ReadsBoth, RefusesText, IsMissing, IsCause}
-use Rattle.bl_limits.specs.declared.TheConstants.{MAX_WALK_POINTS}
+use Rattle.bl_run.specs.Solve.{Run, report, ReadsBoth, IsSmall, RefusesText, IsMissing, IsCause}
 
 -- what a command works on: the files and the output
 pub record Outside : Type 0 where
@@ -17,10 +15,10 @@ pub record Outside : Type 0 where
   pub out : SinkState
 
 -- why the command ended so. Want of memory comes freely, also where the words are read.
-abbrev pub HasCause : List (List ℕ) → Option Files → Run → Ending → Type 0
-HasCause words files run BadWords = AreRefused words
-HasCause words files run OutOfMemory = ⊤
-HasCause words files run ending = AreSolveWords words run.words × IsCause files run ending
+abbrev pub HasCause : (Command → Bool) → List (List ℕ) → Option Files → Run → Ending → Type 0
+HasCause does words files run BadWords = AreRefused does words
+HasCause does words files run OutOfMemory = ⊤
+HasCause does words files run ending = AreAsked does words run.words × IsCause files run ending
 
 -- a fault of reading or want of memory, which may come before what would come else
 abbrev pub ComesFirst : Ending → Type 0
@@ -36,15 +34,15 @@ EndsInAnswer (WriteFault target) = ⊤
 EndsInAnswer _ = ⊥
 
 -- a cause that stands in the files gives its ending
-pub record IsDue (words : List (List ℕ)) (ending : Ending) (files : Files) : Type 0 where
+pub record IsDue (does : Command → Bool) (words : List (List ℕ)) (ending : Ending) (files : Files) : Type 0 where
   pub refused : (run : Run) (file : List ℕ) (place : Place) (rule : List ℕ)
-      → AreSolveWords words run.words → RefusesText (Some files) run file place rule
+      → AreAsked does words run.words → RefusesText (Some files) run file place rule
       → (ending ≡ BadText file place rule) ⊎ ComesFirst ending
   pub missing : (run : Run) (file : List ℕ)
-      → AreSolveWords words run.words → IsMissing (Some files) run file → (ending ≡ Missing file) ⊎ ComesFirst ending
+      → AreAsked does words run.words → IsMissing (Some files) run file → (ending ≡ Missing file) ⊎ ComesFirst ending
   pub answered : (run : Run)
-      → AreSolveWords words run.words → ReadsBoth (Some files) run
-      → point_count (root (program run)) ≤ MAX_WALK_POINTS → EndsInAnswer ending ⊎ ComesFirst ending
+      → AreAsked does words run.words → ReadsBoth (Some files) run
+      → IsSmall run.words.command run → EndsInAnswer ending ⊎ ComesFirst ending
 
 -- what the ending leaves on the output: the report, some first bytes of it, or nothing
 abbrev pub Prints : Run → Ending → Option (List ℕ) → Option (List ℕ) → Type 0
@@ -79,22 +77,26 @@ pub record Leaves (run : Run) (ending : Ending) (old new : Outside) : Type 0 whe
   pub write_faults : WriteFaultsAt ending old new
   pub files : new.files.contents ≡ old.files.contents
 
--- The line stands at the end, or some first bytes of it do and the count of faults rose. Without a line nothing changed.
+-- The line stands at the end, or some first bytes of it do and the count of faults rose. Without a line nothing
+-- changed.
 abbrev pub Tells : Option (List ℕ) → SinkState → SinkState → Type 0
 Tells None old new = new ≡ old
 Tells (Some line) old new =
     (Told (Adds line) old.bytes new.bytes × (new.faults ≡ old.faults))
     ⊎ (Told (AddsPrefix line) old.bytes new.bytes × Grew old.faults new.faults)
 
--- The promise of a top call. There is one run, of which all the rest is said, and one ending, whose status is answered
--- and whose cause stands. Words that ask for nothing end so, unless there is no memory; where the files are told, a cause that stands in them gives
+-- The promise of a top call that does these commands. There is one run, of which all the rest is said, and one
+-- ending, whose status is answered
+-- and whose cause stands. Words that ask for nothing end so, unless there is no memory; where the files are told, a
+-- cause that stands in them gives
 -- its ending. The rest is what is left on the files and on the two outputs.
-pub record Promise (words : List (List ℕ)) (old new : Outside) (old_err new_err : SinkState) (status : ℕ) : Type 0 where
+pub record Promise (does : Command → Bool) (words : List (List ℕ)) (old new : Outside) (old_err new_err : SinkState)
+    (status : ℕ) : Type 0 where
   pub run : Run
   pub ending : Ending
   pub status_is : status ≡ status_of ending
-  pub cause : HasCause words old.files.contents run ending
-  pub refused : AreRefused words → (ending ≡ BadWords) ⊎ (ending ≡ OutOfMemory)
-  pub due : IfTold old.files.contents (IsDue words ending)
+  pub cause : HasCause does words old.files.contents run ending
+  pub refused : AreRefused does words → (ending ≡ BadWords) ⊎ (ending ≡ OutOfMemory)
+  pub due : IfTold old.files.contents (IsDue does words ending)
   pub leaves : Leaves run ending old new
   pub told : Tells (line_of ending) old_err new_err

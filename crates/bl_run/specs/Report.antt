@@ -1,7 +1,12 @@
 -- Trusted: an answer to a program, and the report of it.
 use Rattle.std.specs.Prelude.{ℕ, List, [], ◌∷◌, ◌++◌, ℤ, ◌*ℤ◌, codes}
-use Rattle.std.specs.Fmt.{signed_decimal}
+use Rattle.std.specs.Fmt.{decimal, signed_decimal}
+use Rattle.std.specs.List.{flat_map}
 use Rattle.bl_raw.specs.declared.raw.RawColumn.{RawColumn}
+use Rattle.bl_raw.specs.declared.raw.RawMps.{RawMps}
+use Rattle.bl_raw.specs.declared.raw.RawAux.{RawAux}
+use Rattle.bl_aux.specs.Canonical.{aux_text}
+use Rattle.bl_mps_write.specs.Canonical.{mps_text}
 use Rattle.bl_terms.specs.Programs.{Program, follower_at}
 use Rattle.bl_terms.specs.Feasible.{Optimal, Infeasible}
 
@@ -35,3 +40,11 @@ optimal_text columns point value follower =
 abbrev pub report_of : List RawColumn → Program → Statement → List ℕ
 report_of columns p (Best z v) = optimal_text columns z v (follower_at p z *ℤ p.sense)
 report_of columns p None = codes "infeasible\n"
+
+-- `links` and the linking columns
+abbrev pub links_line : List ℕ → List ℕ
+links_line links = codes "links" ++ (flat_map (λ link. codes " " ++ decimal link) links ++ codes "\n")
+
+-- what `show` prints: both texts in their canonical form, and the linking columns
+unfoldable pub show_text : RawMps → RawAux → Program → List ℕ
+show_text mps aux p = mps_text mps ++ (aux_text aux ++ links_line p.links)

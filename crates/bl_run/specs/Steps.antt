@@ -1,5 +1,5 @@
 -- Internal: what the private calls of a command promise one another.
-use Rattle.std.specs.Prelude.{ℤ, pos, ◌≤ℤ◌, ◌≤◌, unsigned_abs, ◌≡◌, ℕ, ◌<◌, List, ◌++◌, length, Option, Ok, Err, ⊤, codes}
+use Rattle.std.specs.Prelude.{Bool, ℤ, pos, ◌≤ℤ◌, ◌≤◌, unsigned_abs, ◌≡◌, ℕ, ◌<◌, List, ◌++◌, length, Option, Ok, Err, ⊤, codes}
 use Rattle.std.specs.declared.result.Result.{Result}
 use Rattle.bl_outer.specs.Count.{Grew}
 use Rattle.bl_outer.specs.Files.{Files, IfTold, Told, IsAbsent}
@@ -16,8 +16,11 @@ use Rattle.bl_run.specs.declared.status.Answer.{Answer}
 use Rattle.bl_run.specs.declared.status.Answer.TheVariants as answer
 use Rattle.bl_run.specs.declared.status.Failure.{Failure}
 use Rattle.bl_run.specs.declared.status.Failure.TheVariants as failure
-use Rattle.bl_words.specs.declared.words.SolveWords as words
-use Rattle.bl_run.specs.Words.{SolveWords}
+use Rattle.bl_words.specs.declared.words.SolveWords as solve
+use Rattle.bl_words.specs.declared.words.ShowWords as show
+use Rattle.bl_words.specs.declared.commands.Command.{Command}
+use Rattle.bl_words.specs.declared.commands.Command.TheVariants.{Solve, Show}
+use Rattle.bl_run.specs.Words.{ModelWords}
 use Rattle.bl_run.specs.Texts.{IsNotYet}
 use Rattle.bl_run.specs.declared.fault.TextFault.{TextFault}
 use Rattle.bl_run.specs.declared.fault.Place as place
@@ -38,6 +41,7 @@ place_of variant.Whole = AsWhole
 abbrev pub answer_ending : Answer → Ending
 answer_ending answer.Optimal = Done
 answer_ending answer.Infeasible = NoPoint
+answer_ending answer.Shown = Done
 
 -- the ending with a failure
 abbrev pub failure_ending : Failure → Ending
@@ -124,19 +128,25 @@ FailsToSolve name mps aux (failure.Missing file) = ⊥
 abbrev pub IsDefaultUpper : ℤ → Type 0
 IsDefaultUpper upper = (pos 0 ≤ℤ upper) × (unsigned_abs upper ≤ MAX_NUMBER)
 
--- what the words ask for
-abbrev pub asked_by : words.SolveWords → SolveWords
-asked_by asked = record { mps = asked.mps.now; aux = asked.aux.now; default_upper = asked.default_upper }
+-- what the words of a command ask for
+abbrev pub solve_asked : solve.SolveWords → ModelWords
+solve_asked asked =
+    record { command = Solve; mps = asked.mps.now; aux = asked.aux.now; default_upper = asked.default_upper }
 
--- `solve` was asked this, and ended so
-pub record Ends (asked : SolveWords) (old new : Outside) (ending : Ending) : Type 0 where
+abbrev pub show_asked : show.ShowWords → ModelWords
+show_asked asked =
+    record { command = Show; mps = asked.mps.now; aux = asked.aux.now; default_upper = asked.default_upper }
+
+-- a command was asked this, and ended so
+pub record Ends (asked : ModelWords) (old new : Outside) (ending : Ending) : Type 0 where
   pub run : Run
   pub words : run.words ≡ asked
   pub cause : IsCause old.files.contents run ending
   pub leaves : Leaves run ending old new
 
--- a command of these words ended so
-pub record EndsCommand (words : List (List ℕ)) (old new : Outside) (ending : Ending) : Type 0 where
+-- a call that does these commands ended so
+pub record EndsCommand (does : Command → Bool) (words : List (List ℕ)) (old new : Outside)
+    (ending : Ending) : Type 0 where
   pub run : Run
-  pub cause : HasCause words old.files.contents run ending
+  pub cause : HasCause does words old.files.contents run ending
   pub leaves : Leaves run ending old new

@@ -1,18 +1,29 @@
 -- Trusted: what the program is asked to do.
-use Rattle.std.specs.Prelude.{ℕ, ℤ, List}
-use Rattle.bl_words.specs.declared.commands.Command.TheVariants.{Solve}
+use Rattle.std.specs.Prelude.{◌≡◌, ℕ, ℤ, Bool, true, false, List}
+use Rattle.bl_words.specs.declared.commands.Command.{Command}
+use Rattle.bl_words.specs.declared.commands.Command.TheVariants.{Solve, Show}
 use Rattle.bl_words.specs.Items.{AreModelWords}
 
--- what `solve` is asked to do: the names of the two files, and the upper bound of a column that no bound line names
-pub record SolveWords : Type 0 where
+-- a command over a model: the names of its two files, and the upper bound of an integer column that no bound line names
+pub record ModelWords : Type 0 where
+  pub command : Command
   pub mps : List ℕ
   pub aux : List ℕ
   pub default_upper : ℤ
 
--- the words ask `solve` to do this
-abbrev pub AreSolveWords : List (List ℕ) → SolveWords → Type 0
-AreSolveWords words asked = AreModelWords Solve words asked.mps asked.aux asked.default_upper
+-- the commands that a top call does: each, or `show` alone
+abbrev pub each_command : Command → Bool
+each_command command = true
 
--- the words ask for nothing that the program does
-abbrev pub AreRefused : List (List ℕ) → Type 0
-AreRefused words = (asked : SolveWords) → ¬ AreSolveWords words asked
+abbrev pub show_alone : Command → Bool
+show_alone Solve = false
+show_alone Show = true
+
+-- the words ask for this, by a command that the call does
+abbrev pub AreAsked : (Command → Bool) → List (List ℕ) → ModelWords → Type 0
+AreAsked does words asked =
+    (does asked.command ≡ true) × AreModelWords asked.command words asked.mps asked.aux asked.default_upper
+
+-- the words ask for nothing that the call does
+abbrev pub AreRefused : (Command → Bool) → List (List ℕ) → Type 0
+AreRefused does words = (asked : ModelWords) → ¬ AreAsked does words asked

@@ -2,7 +2,9 @@
 #![tactic(auto)]
 
 mod fault;
+mod read;
 mod report;
+mod show;
 mod solve;
 mod status;
 #[cfg(test)]
@@ -10,4 +12,4 @@ mod tests;
 mod top;
 
 pub use status::Status;
-pub use top::{out_of_memory, run, run_alone};
+pub use top::{out_of_memory, run, run_alone, run_show};

@@ -1,40 +1,26 @@
 //! The command `solve`.
 
-ghost use Rattle.std.specs.Prelude.{◌≡◌, ◌↔◌, ◌<◌, ◌≤◌, ◌+ℤ◌, ◌-ℤ◌, ◌*ℤ◌, ◌≤ℤ◌, pos, length, unsigned_abs, IfOk, IfErr, IsTrue, MatchOption};
+ghost use Rattle.std.specs.Prelude.{◌≡◌, ◌↔◌, ◌<◌, ◌≤◌, ◌+ℤ◌, ◌-ℤ◌, ◌*ℤ◌, ◌≤ℤ◌, pos, length, unsigned_abs, IfOk, IfErr, IsTrue};
 ghost use Rattle.bl_limits.specs.declared.TheConstants.{MAX_NUMBER, MAX_WALK_POINTS};
 ghost use Rattle.bl_whole.specs.Within.{IsWithin};
-ghost use Rattle.bl_outer.specs.Files.{Holds, IfTold};
 ghost use Rattle.bl_terms.specs.Programs.{root, InBox, follower_at, columns as column_count};
 ghost use Rattle.bl_plain.specs.Walk.{IsAnswer};
 ghost use Rattle.bl_terms.specs.Trees.{point_count};
 ghost use Rattle.bl_raw.specs.Raw.{IsRawModel, FitsModel};
 ghost use Rattle.bl_model.specs.Build.{program_of};
-ghost use Rattle.bl_run.specs.Texts.{IsMpsText, IsMpsFault, IsAuxText, IsAuxFault};
-ghost use Rattle.bl_run.specs.Steps.{result_ending, OnlyCounts, HasText, FailsToRead, NoFault, IsTooLong, IsReport, FailsToSolve, Ends, IsDefaultUpper, asked_by};
+ghost use Rattle.bl_run.specs.Steps.{result_ending, IsReport, FailsToSolve, Ends, IsDefaultUpper, solve_asked};
 
-use crate::fault::{TextFault, aux_fault, mps_fault};
+use crate::fault::TextFault;
+use crate::read::{read_aux, read_mps};
 use crate::report::{INFEASIBLE, optimal_report};
 use crate::status::{Answer, Failure};
-use bl_aux::{AuxError, AuxFault, AuxRule};
-use bl_limits::{MAX_TEXT_BYTES, MAX_WALK_POINTS};
+use bl_limits::MAX_WALK_POINTS;
 use bl_model::{Bilevel, build};
-use bl_mps::{MpsError, MpsFault, MpsRule};
-use bl_outer::{Got, ReadFail, Shelf, Sink, read_text};
+use bl_outer::{Shelf, Sink};
 use bl_plain::{Optimum, plain_best};
 use bl_raw::{RawAux, RawColumn, RawMps};
 use bl_words::SolveWords;
 use std::alloc::{AllocError, Global};
-
-const MPS_TOO_LONG: MpsFault = MpsFault {
-    rule: MpsRule::TooLong,
-    line: 0,
-    column: 0,
-};
-
-const AUX_TOO_LONG: AuxFault = AuxFault {
-    rule: AuxRule::TooLong,
-    line: 0,
-};
 
 /// An answer and its text.
 #[derive(Drop)]
@@ -51,7 +37,7 @@ pub(crate) fn solve<'a, F: Shelf, O: Sink>(
     out: &mut O,
 ) -> Result<Answer, Failure<'a>>
     requires { IsDefaultUpper words.default_upper }
-    ensures { Ends (asked_by words.entry)
+    ensures { Ends (solve_asked words.entry)
         (record { files = F.state files.old; out = O.state out.old })
         (record { files = F.state files.new; out = O.state out.new })
         (result_ending result) }
@@ -61,79 +47,6 @@ pub(crate) fn solve<'a, F: Shelf, O: Sink>(
     let report = solve_model(alloc, words.mps, &mps, &aux)?;
     out.put(&report.text)?;
     Ok(report.answer)
-}
-
-/// Reads the model, where the file has it.
-fn read_mps<'a, F: Shelf>(
-    alloc: Global,
-    files: &mut F,
-    name: &'a str,
-    default_upper: i64,
-) -> Result<RawMps, Failure<'a>>
-    requires { IsDefaultUpper default_upper }
-    ensures limits { IfOk result IsRawModel }
-    ensures read { IfOk result (λ mps.
-        HasText (F.state files.old).contents name.now (λ text. IsMpsText default_upper text mps)) }
-    ensures failed { IfErr result
-        (FailsToRead (F.state files.old).contents name.now (IsMpsFault default_upper)) }
-    ensures counts { OnlyCounts (F.state files.old) (F.state files.new) result }
-{
-    let Some(text) = read_file(alloc, files, name)? else {
-        return Err(Failure::Text(name, mps_fault(MPS_TOO_LONG)));
-    };
-    match bl_mps::read_mps(alloc, &text, default_upper) {
-        Ok(mps) => Ok(mps),
-        Err(MpsError::Fault(fault)) => Err(Failure::Text(name, mps_fault(fault))),
-        Err(MpsError::Memory) => Err(Failure::Memory),
-    }
-}
-
-/// Reads the follower of the model, where the file has one.
-fn read_aux<'a, F: Shelf>(
-    alloc: Global,
-    files: &mut F,
-    name: &'a str,
-    mps: &RawMps,
-) -> Result<RawAux, Failure<'a>>
-    requires { IsRawModel mps.now }
-    ensures fits { IfOk result (FitsModel (length mps.now.columns) (length mps.now.rows)) }
-    ensures read { IfOk result (λ aux.
-        HasText (F.state files.old).contents name.now (λ text. IsAuxText mps.now text aux)) }
-    ensures failed { IfErr result (FailsToRead (F.state files.old).contents name.now (IsAuxFault mps.now)) }
-    ensures counts { OnlyCounts (F.state files.old) (F.state files.new) result }
-{
-    let Some(text) = read_file(alloc, files, name)? else {
-        return Err(Failure::Text(name, aux_fault(AUX_TOO_LONG)));
-    };
-    let columns = mps.columns.as_slice().len() as u32;
-    let rows = mps.rows.as_slice().len() as u32;
-    match bl_aux::read_aux(alloc, &text, columns, rows) {
-        Ok(aux) => Ok(aux),
-        Err(AuxError::Fault(fault)) => Err(Failure::Text(name, aux_fault(fault))),
-        Err(AuxError::Memory) => Err(Failure::Memory),
-    }
-}
-
-/// Reads the whole file, or nothing where it has more bytes than are read.
-fn read_file<'a, F: Shelf>(
-    alloc: Global,
-    files: &mut F,
-    name: &'a str,
-) -> Result<Option<Vec<u8>>, Failure<'a>>
-    ensures read { IfOk result (λ found. MatchOption found
-        (HasText (F.state files.old).contents name.now IsTooLong)
-        (λ text. IfTold (F.state files.old).contents (λ told. Holds told name.now text.items))) }
-    ensures failed { IfErr result (FailsToRead (F.state files.old).contents name.now NoFault) }
-    ensures counts { OnlyCounts (F.state files.old) (F.state files.new) result }
-{
-    let mut text = Vec::new(alloc);
-    match read_text(files, name, MAX_TEXT_BYTES as u64, &mut text) {
-        Ok(Got::Whole) => Ok(Some(text)),
-        Ok(Got::Longer) => Ok(None),
-        Ok(Got::Missing) => Err(Failure::Missing(name)),
-        Err(ReadFail::Failed) => Err(Failure::ReadFault(name)),
-        Err(ReadFail::Memory) => Err(Failure::Memory),
-    }
 }
 
 /// Builds the program, walks it, and writes the report.

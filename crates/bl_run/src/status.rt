@@ -17,6 +17,7 @@ pub struct Status(pub u8);
 pub(crate) enum Answer {
     Optimal,
     Infeasible,
+    Shown,
 }
 
 impl Answer {
@@ -28,7 +29,7 @@ impl Answer {
         ensures { result.0 ≡ status_of (answer_ending self) }
     {
         Status(match self {
-            Answer::Optimal => 0,
+            Answer::Optimal | Answer::Shown => 0,
             Answer::Infeasible => 1,
         })
     }

@@ -2,7 +2,7 @@
 
 mod texts;
 
-use crate::{Status, run, run_alone};
+use crate::{Status, run, run_alone, run_show};
 use bl_outer::{MemShelf, MemSink, NoGate};
 use std::alloc::{AllocError, Global};
 use std::sync::Wait;
@@ -230,6 +230,17 @@ fn status_alone(
     run_alone(alloc, words, files, out, err)
 }
 
+/// The same of `show` alone.
+fn status_of_show(
+    alloc: Global,
+    words: &[String],
+    files: &mut MemShelf,
+    out: &mut MemSink,
+    err: &mut MemSink,
+) -> Status {
+    run_show(alloc, words, files, out, err)
+}
+
 /// The same of the call that main makes.
 fn status_of_run<R: Threads + Wait + Sync>(
     rt: &R,
@@ -285,6 +296,126 @@ fn takes_a_default_upper_bound(rt: HostRuntime) -> Result<(), Fail> {
     Ok(())
 }
 
+const MOORE_BARD_SHOWN: &str = "\
+NAME
+ROWS
+ N COST
+ L C1
+ L C2
+ L C3
+ G C4
+COLUMNS
+ MARKER 'MARKER' 'INTORG'
+ X COST -1
+ X C1 -25
+ X C2 1
+ X C3 2
+ X C4 2
+ Y COST -10
+ Y C1 20
+ Y C2 2
+ Y C3 -1
+ Y C4 10
+ MARKER 'MARKER' 'INTEND'
+RHS
+ RHS C1 30
+ RHS C2 10
+ RHS C3 15
+ RHS C4 15
+RANGES
+BOUNDS
+ LO BND X 0
+ UP BND X 10
+ LO BND Y 0
+ UP BND Y 10
+ENDATA
+N 1
+M 4
+LC 1
+LR 0
+LR 1
+LR 2
+LR 3
+LO 1
+OS 1
+links 0
+";
+
+// 2X from 6 to 10, given as a row of at most 10 with a range of 4; the leader maximises X.
+const RANGE: &str = "\
+OBJSENSE MAX
+ROWS
+ N COST
+ L R
+COLUMNS
+ M 'MARKER' 'INTORG'
+ X COST 1 R 2
+RHS
+ R 10
+RANGES
+ R 4
+BOUNDS
+ UP X 9
+ENDATA
+";
+
+const RANGE_SHOWN: &str = "\
+NAME
+OBJSENSE
+ MAX
+ROWS
+ N COST
+ G R
+COLUMNS
+ MARKER 'MARKER' 'INTORG'
+ X COST 1
+ X R 2
+ MARKER 'MARKER' 'INTEND'
+RHS
+ RHS R 6
+RANGES
+ RANGE R 4
+BOUNDS
+ LO BND X 0
+ UP BND X 9
+ENDATA
+N 0
+M 0
+OS 1
+links
+";
+
+#[test]
+fn shows_the_canonical_texts(rt: HostRuntime) -> Result<(), Fail> {
+    let words = words(rt.alloc(), &["show", "m.mps", "m.aux"])?;
+    for (mps, aux, shown) in [
+        (MOORE_BARD, MOORE_BARD_AUX, MOORE_BARD_SHOWN),
+        (RANGE, NO_FOLLOWER, RANGE_SHOWN),
+    ] {
+        let mut files = shelf(rt.alloc(), mps, aux, &[])?;
+        let mut out = MemSink::new(rt.alloc(), &[])?;
+        let mut err = MemSink::new(rt.alloc(), &[])?;
+        let status = status_of_run(&rt, rt.alloc(), &words, &mut files, &mut out, &mut err);
+        assert_eq!(rt; status, Status(0), "{shown}");
+        assert_eq!(rt; out.bytes(), shown.as_bytes());
+        assert_eq!(rt; err.bytes(), b"".as_slice());
+    }
+    Ok(())
+}
+
+#[test]
+fn show_alone_does_no_other_command(rt: HostRuntime) -> Result<(), Fail> {
+    for (command, status) in [("show", 0), ("solve", 2)] {
+        let words = words(rt.alloc(), &[command, "m.mps", "m.aux"])?;
+        let mut files = shelf(rt.alloc(), MOORE_BARD, MOORE_BARD_AUX, &[])?;
+        let mut out = MemSink::new(rt.alloc(), &[])?;
+        let mut err = MemSink::new(rt.alloc(), &[])?;
+        let ended = status_of_show(rt.alloc(), &words, &mut files, &mut out, &mut err);
+        assert_eq!(rt; ended, Status(status), "{command}");
+    }
+    Ok(())
+}
+
 #[test]
 fn refuses_other_words(rt: HostRuntime) -> Result<(), Fail> {
     let refused: [&[&str]; 9] = [
@@ -296,7 +427,7 @@ fn refuses_other_words(rt: HostRuntime) -> Result<(), Fail> {
         &["solve", "m.mps", "-"],
         &["solve", "m.mps", "m.aux", "--help"],
         &["solve", "m.mps", "m.aux", "--default-upper", "04"],
-        &["show", "m.mps", "m.aux"],
+        &["show", "m.mps"],
     ];
     for texts in refused {
         let words = words(rt.alloc(), texts)?;

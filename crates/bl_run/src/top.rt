@@ -1,14 +1,16 @@
 //! The top calls.
 
 ghost use Rattle.std.specs.Prelude.{◌≡◌, map, string_bytes};
-ghost use Rattle.bl_run.specs.Endings.{OutOfMemory, line_of};
+ghost use Rattle.bl_run.specs.Words.{each_command, show_alone};
+ghost use Rattle.bl_run.specs.Endings.{OutOfMemory, status_of, line_of};
 ghost use Rattle.bl_run.specs.Promise.{Promise, Tells};
 ghost use Rattle.bl_run.specs.Steps.{result_ending, EndsCommand};
 
+use crate::show::show;
 use crate::solve::solve;
 use crate::status::{Answer, Failure, Status};
 use bl_outer::{Gate, Shelf, Sink};
-use bl_words::solve_words;
+use bl_words::{show_words, solve_words};
 use std::alloc::Global;
 use std::sync::Wait;
 use std::thread::Threads;
@@ -40,7 +42,7 @@ pub fn run<R: Threads + Wait + Sync, F: Shelf, O: Sink, E: Sink, G: Gate + Sync>
     err: &mut E,
     _gate: &G,
 ) -> Status
-    ensures { Promise (map string_bytes words.now)
+    ensures { Promise each_command (map string_bytes words.now)
         (record { files = F.state files.old; out = O.state out.old })
         (record { files = F.state files.new; out = O.state out.new })
         (E.state err.old) (E.state err.new) result.0 }
@@ -56,12 +58,38 @@ pub fn run_alone<F: Shelf, O: Sink, E: Sink>(
     out: &mut O,
     err: &mut E,
 ) -> Status
-    ensures { Promise (map string_bytes words.now)
+    ensures { Promise each_command (map string_bytes words.now)
         (record { files = F.state files.old; out = O.state out.old })
         (record { files = F.state files.new; out = O.state out.new })
         (E.state err.old) (E.state err.new) result.0 }
 {
-    match command(alloc, words, files, out) {
+    let ended = command(alloc, words, files, out);
+    end(ended, err)
+}
+
+/// The command `show` alone: every other one is an unknown one to it. It waits for nobody, and returns.
+pub fn run_show<F: Shelf, O: Sink, E: Sink>(
+    alloc: Global,
+    words: &[String],
+    files: &mut F,
+    out: &mut O,
+    err: &mut E,
+) -> Status
+    ensures { Promise show_alone (map string_bytes words.now)
+        (record { files = F.state files.old; out = O.state out.old })
+        (record { files = F.state files.new; out = O.state out.new })
+        (E.state err.old) (E.state err.new) result.0 }
+{
+    let ended = show_command(alloc, words, files, out);
+    end(ended, err)
+}
+
+/// The status of what a command answered, whose line is printed where it has one.
+fn end<E: Sink>(ended: Result<Answer, Failure<'_>>, err: &mut E) -> Status
+    ensures status { result.0 ≡ status_of (result_ending ended.entry) }
+    ensures told { Tells (line_of (result_ending ended.entry)) (E.state err.old) (E.state err.new) }
+{
+    match ended {
         Ok(answer) => answer.status(),
         Err(failure) => {
             failure.tell(err);
@@ -77,15 +105,33 @@ fn command<'a, F: Shelf, O: Sink>(
     files: &mut F,
     out: &mut O,
 ) -> Result<Answer, Failure<'a>>
-    ensures { EndsCommand (map string_bytes words.now)
+    ensures { EndsCommand each_command (map string_bytes words.now)
         (record { files = F.state files.old; out = O.state out.old })
         (record { files = F.state files.new; out = O.state out.new })
         (result_ending result) }
 {
-    let Some(asked) = solve_words(alloc, words)? else {
-        return Err(Failure::Words);
-    };
-    solve(alloc, asked, files, out)
+    match solve_words(alloc, words)? {
+        Some(asked) => solve(alloc, asked, files, out),
+        None => show_command(alloc, words, files, out),
+    }
+}
+
+/// Does what the words ask for, where that is `show`.
+fn show_command<'a, F: Shelf, O: Sink>(
+    alloc: Global,
+    words: &'a [String],
+    files: &mut F,
+    out: &mut O,
+) -> Result<Answer, Failure<'a>>
+    ensures { EndsCommand show_alone (map string_bytes words.now)
+        (record { files = F.state files.old; out = O.state out.old })
+        (record { files = F.state files.new; out = O.state out.new })
+        (result_ending result) }
+{
+    match show_words(alloc, words)? {
+        Some(asked) => show(alloc, asked, files, out),
+        None => Err(Failure::Words),
+    }
 }
 
 /// The answer where not even the words could be read for want of memory.

@@ -1,11 +1,9 @@
-use Rattle.bl_run.proofs.PromiseLemmas.{promised, untold}
-use Rattle.bl_run.specs.Steps.{answer_ending, failure_ending}
+use Rattle.bl_run.specs.Words.{each_command}
+use Rattle.bl_run.specs.Steps.{result_ending}
+use Rattle.bl_run.proofs.PromiseLemmas.{promised}
 use Rattle.bl_run.proofs.top.run_alone.Goals as goal
 
-pub returns-in-Ok : goal.returns-in-Ok
-returns-in-Ok g c = promised _ _ _ _ _ (answer_ending c.in-Ok.answer) _ c.in-Ok.ensures c.status.ensures
-    (untold c.in-Ok.answer _)
-
-pub returns-in-Err : goal.returns-in-Err
-returns-in-Err g c = promised _ _ _ _ _ (failure_ending c.in-Err.failure) _ c.in-Err.ensures c.status-in-Err.ensures
-    c.tell.ensures
+pub returns : goal.returns
+returns g c =
+    promised each_command _ _ _ _ _ (result_ending c.command-ended.result) _ c.command-ended.ensures
+    c.end.ensures.status c.end.ensures.told

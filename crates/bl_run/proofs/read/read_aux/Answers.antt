@@ -1,7 +1,7 @@
 use Rattle.std.proofs.Common.{refl}
 use Rattle.std.proofs.lemmas.Option.{MatchOption-at_none}
 use Rattle.bl_run.proofs.StepLemmas.{aux_too_long}
-use Rattle.bl_run.proofs.solve.read_aux.Goals as goal
+use Rattle.bl_run.proofs.read.read_aux.Goals as goal
 
 pub returns-in_default-clause-failed : goal.returns-in_default-clause-failed
 returns-in_default-clause-failed g c = (

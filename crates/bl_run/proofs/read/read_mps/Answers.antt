@@ -1,7 +1,7 @@
 use Rattle.std.proofs.Common.{refl}
 use Rattle.std.proofs.lemmas.Option.{MatchOption-at_none}
 use Rattle.bl_run.proofs.StepLemmas.{mps_too_long}
-use Rattle.bl_run.proofs.solve.read_mps.Goals as goal
+use Rattle.bl_run.proofs.read.read_mps.Goals as goal
 
 pub returns-in_default-clause-failed : goal.returns-in_default-clause-failed
 returns-in_default-clause-failed g c = (
