@@ -18,17 +18,22 @@ less_ranks x y r e = subst (λ o. MatchOrdering o (x <ℤ y) (x ≡ y) (y <ℤ x
 
 pub above_from_order : (least : ℤ) (x : Fraction) → order_of (whole_fraction least) x ≡ Less → IsAbove least x
 unfolding order_of
-above_from_order least x e = subst (λ z. (least *ℤ pos x.den) <ℤ z) (*ℤ_one x.num) (less_ranks (least *ℤ pos x.den) (x.num *ℤ pos 1) Less e)
+above_from_order least x e =
+    subst (λ z. (least *ℤ pos x.den) <ℤ z) (*ℤ_one x.num) (less_ranks (least *ℤ pos x.den) (x.num *ℤ pos 1) Less e)
 
 pub order_from_above : (least : ℤ) (x : Fraction) → IsAbove least x → order_of (whole_fraction least) x ≡ Less
 unfolding order_of
-order_from_above least x h = sym (int_cmp_is (least *ℤ pos x.den) (x.num *ℤ pos 1) Less (subst (λ z. (least *ℤ pos x.den) <ℤ z) (sym (*ℤ_one x.num)) h))
+order_from_above least x h =
+    sym (int_cmp_is (least *ℤ pos x.den) (x.num *ℤ pos 1) Less
+    (subst (λ z. (least *ℤ pos x.den) <ℤ z) (sym (*ℤ_one x.num)) h))
 
 pub at_most_from_order : (x : Fraction) (most : ℤ) → order_of x (whole_fraction most) ≢ Greater → IsAtMost x most
 unfolding order_of
 at_most_from_order x most ne = record {
   cross = by_lt_z (most *ℤ pos x.den) x.num
-      (λ more. absurd (ne (sym (int_cmp_is (x.num *ℤ pos 1) (most *ℤ pos x.den) Greater (subst (λ z. (most *ℤ pos x.den) <ℤ z) (sym (*ℤ_one x.num)) more)))))
+      (λ more. absurd (ne (sym
+      (int_cmp_is (x.num *ℤ pos 1) (most *ℤ pos x.den) Greater
+      (subst (λ z. (most *ℤ pos x.den) <ℤ z) (sym (*ℤ_one x.num)) more)))))
       (λ l. l);
 }
 
@@ -45,4 +50,5 @@ le_test x y = (λ t. search rules, λ l. search rules)
 
 pub at_most_test : (a b x y : ℤ) → a ≡ x → b ≡ y → (IsTrue (le_z a b) → x ≤ℤ y) × (x ≤ℤ y → IsTrue (le_z a b))
 at_most_test a b x y ea eb =
-    subst (λ z. (IsTrue (le_z z b) → x ≤ℤ y) × (x ≤ℤ y → IsTrue (le_z z b))) (sym ea) (subst (λ z. (IsTrue (le_z x z) → x ≤ℤ y) × (x ≤ℤ y → IsTrue (le_z x z))) (sym eb) (le_test x y))
+    subst (λ z. (IsTrue (le_z z b) → x ≤ℤ y) × (x ≤ℤ y → IsTrue (le_z z b))) (sym ea)
+    (subst (λ z. (IsTrue (le_z x z) → x ≤ℤ y) × (x ≤ℤ y → IsTrue (le_z x z))) (sym eb) (le_test x y))

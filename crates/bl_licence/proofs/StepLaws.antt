@@ -24,7 +24,8 @@ pub record StepsSoFar (u : Option ℤ) (start now : Run) (pivots : List (ℕ × 
   pub goes_on : AreSteps start.problem u (current start) pivots → AreSteps now.problem u (current now) (drop k pivots)
   pub came : AreSteps now.problem u (current now) (drop k pivots) → AreSteps start.problem u (current start) pivots
 
-pub steps_begin : (u : Option ℤ) (start : Run) (pivots : List (ℕ × ℕ)) → start.spent ≡ false → length start.pivots + length pivots ≤ start.most → StepsSoFar u start start pivots 0
+pub steps_begin : (u : Option ℤ) (start : Run) (pivots : List (ℕ × ℕ)) → start.spent ≡ false
+    → length start.pivots + length pivots ≤ start.most → StepsSoFar u start start pivots 0
 steps_begin u start pivots fresh room = record {
   problem = refl;
   most = refl;
@@ -35,18 +36,21 @@ steps_begin u start pivots fresh room = record {
   came = λ h. h;
 }
 
-rest_is : (pivots : List (ℕ × ℕ)) (k : ℕ) (p : ℕ × ℕ) → k < length pivots → p ≡ get_or pivots k (0, 0) → drop k pivots ≡ p ∷ drop (k + 1) pivots
+rest_is : (pivots : List (ℕ × ℕ)) (k : ℕ) (p : ℕ × ℕ) → k < length pivots → p ≡ get_or pivots k (0, 0)
+    → drop k pivots ≡ p ∷ drop (k + 1) pivots
 rest_is pivots k p l e =
     let n : suc k ≡ k + 1 = omega arith in
     drop-cons pivots k (0, 0) l ∙ ap (λ x. x ∷ drop (suc k) pivots) (sym e) ∙ ap (λ m. p ∷ drop m pivots) n
 
-after_is : (q : Problem) (ps : List (ℕ × ℕ)) (p : ℕ × ℕ) → replay (opening q) (ps ++ p ∷ []) ≡ pivoted (replay (opening q) ps) p.0 p.1
+after_is : (q : Problem) (ps : List (ℕ × ℕ)) (p : ℕ × ℕ)
+    → replay (opening q) (ps ++ p ∷ []) ≡ pivoted (replay (opening q) ps) p.0 p.1
 after_is q ps p = replay-append (opening q) ps p
 
 abbrev pub with_pivot : Run → ℕ × ℕ → Run
 with_pivot now p = record now { pivots = now.pivots ++ p ∷ [] }
 
-pub steps_more : (u : Option ℤ) (start now next : Run) (pivots : List (ℕ × ℕ)) (k : ℕ) (p : ℕ × ℕ) → StepsSoFar u start now pivots k → k < length pivots → p ≡ get_or pivots k (0, 0)
+pub steps_more : (u : Option ℤ) (start now next : Run) (pivots : List (ℕ × ℕ)) (k : ℕ) (p : ℕ × ℕ)
+    → StepsSoFar u start now pivots k → k < length pivots → p ≡ get_or pivots k (0, 0)
     → IsStep now.problem u (current now) p → next ≡ with_pivot now p → StepsSoFar u start next pivots (k + 1)
 steps_more u start now next pivots k p so l ep step en =
     let rest = rest_is pivots k p l ep in
@@ -55,7 +59,8 @@ steps_more u start now next pivots k p so l ep step en =
       problem = so.problem;
       most = so.most;
       fresh = so.fresh;
-      added = append_assoc now.pivots (p ∷ []) (drop (k + 1) pivots) ∙ ap (λ xs. now.pivots ++ xs) (sym rest) ∙ so.added;
+      added = append_assoc now.pivots (p ∷ []) (drop (k + 1) pivots) ∙ ap (λ xs. now.pivots ++ xs) (sym rest)
+          ∙ so.added;
       room = omega (arith, length-append now.pivots (p ∷ []), so.room);
       goes_on = λ h.
           let all = subst (AreSteps now.problem u (current now)) rest (so.goes_on h) in
@@ -67,9 +72,11 @@ steps_more u start now next pivots k p so l ep step en =
     } in
     subst (λ r. StepsSoFar u start r pivots (k + 1)) (sym en) made
 
-pub steps_fail : (u : Option ℤ) (start now : Run) (pivots : List (ℕ × ℕ)) (k : ℕ) (p : ℕ × ℕ) → StepsSoFar u start now pivots k → k < length pivots → p ≡ get_or pivots k (0, 0)
+pub steps_fail : (u : Option ℤ) (start now : Run) (pivots : List (ℕ × ℕ)) (k : ℕ) (p : ℕ × ℕ)
+    → StepsSoFar u start now pivots k → k < length pivots → p ≡ get_or pivots k (0, 0)
     → ¬ IsStep now.problem u (current now) p → ¬ AreSteps start.problem u (current start) pivots
-steps_fail u start now pivots k p so l ep refused h = refused (subst (AreSteps now.problem u (current now)) (rest_is pivots k p l ep) (so.goes_on h)).0
+steps_fail u start now pivots k p so l ep refused h =
+    refused (subst (AreSteps now.problem u (current now)) (rest_is pivots k p l ep) (so.goes_on h)).0
 
 drop_all : (pivots : List (ℕ × ℕ)) (k : ℕ) → length pivots ≤ k → drop k pivots ≡ []
 drop_all [] zero h = refl
@@ -81,10 +88,13 @@ append_none : (xs : List (ℕ × ℕ)) → xs ++ [] ≡ xs
 append_none [] = refl
 append_none (x ∷ xs) = ap (λ ys. x ∷ ys) (append_none xs)
 
-pub steps_all : (u : Option ℤ) (start now : Run) (pivots : List (ℕ × ℕ)) (k : ℕ) → StepsSoFar u start now pivots k → length pivots ≤ k → AreSteps start.problem u (current start) pivots
-steps_all u start now pivots k so l = so.came (subst (AreSteps now.problem u (current now)) (sym (drop_all pivots k l)) tt)
+pub steps_all : (u : Option ℤ) (start now : Run) (pivots : List (ℕ × ℕ)) (k : ℕ) → StepsSoFar u start now pivots k
+    → length pivots ≤ k → AreSteps start.problem u (current start) pivots
+steps_all u start now pivots k so l =
+    so.came (subst (AreSteps now.problem u (current now)) (sym (drop_all pivots k l)) tt)
 
-pub steps_took : (u : Option ℤ) (start now : Run) (pivots : List (ℕ × ℕ)) (k : ℕ) → StepsSoFar u start now pivots k → length pivots ≤ k → Took start pivots now
+pub steps_took : (u : Option ℤ) (start now : Run) (pivots : List (ℕ × ℕ)) (k : ℕ) → StepsSoFar u start now pivots k
+    → length pivots ≤ k → Took start pivots now
 steps_took u start now pivots k so l = record {
   problem = so.problem;
   most = so.most;
@@ -93,9 +103,11 @@ steps_took u start now pivots k so l = record {
 }
 
 -- what a run from the opening dictionary has come to
-pub took_opening : (start now : Run) (pivots : List (ℕ × ℕ)) → start.pivots ≡ [] → Took start pivots now → current now ≡ replay (opening start.problem) pivots
+pub took_opening : (start now : Run) (pivots : List (ℕ × ℕ)) → start.pivots ≡ [] → Took start pivots now
+    → current now ≡ replay (opening start.problem) pivots
 took_opening start now pivots none took =
-    ap (λ q. replay (opening q) now.pivots) took.problem ∙ ap (replay (opening start.problem)) (took.added ∙ ap (λ ps. ps ++ pivots) none)
+    ap (λ q. replay (opening q) now.pivots) took.problem
+    ∙ ap (replay (opening start.problem)) (took.added ∙ ap (λ ps. ps ++ pivots) none)
 
 pub current_opening : (start : Run) → start.pivots ≡ [] → current start ≡ opening start.problem
 current_opening start none = ap (replay (opening start.problem)) none
@@ -132,7 +144,9 @@ turns_by a b P Q first second (inr (inr more)) = absurd (second (inl more))
 -- of two places one comes first, or they are one
 in_turn : (r i j k l : ℕ) → (ComesBefore r i j k l → ⊥) → (ComesBefore r k l i j → ⊥) → (i ≡ k) × (j ≡ l)
 in_turn r i j k l first second =
-    let turns : turn_of r i ≡ turn_of r k = turns_by (turn_of r i) (turn_of r k) ((i ≡ k) × (j < l)) ((k ≡ i) × (l < j)) first second (cases_order (turn_of r i) (turn_of r k)) in
+    let turns : turn_of r i ≡ turn_of r k =
+    turns_by (turn_of r i) (turn_of r k) ((i ≡ k) × (j < l)) ((k ≡ i) × (l < j)) first second
+    (cases_order (turn_of r i) (turn_of r k)) in
     let same = same_turn r i k turns in
     (same, by_columns same (cases_order j l))
   where
@@ -141,12 +155,16 @@ in_turn r i j k l first second =
     by_columns e (inr (inl a)) = absurd (first (inr (e, a)))
     by_columns e (inr (inr c)) = absurd (second (inr (sym e, c)))
 
-pub one_wide_place : (q : Problem) (d : Dictionary) (r c i j k l : ℕ) → FailsFirstAt q d r c i j → FailsFirstAt q d r c k l → (i ≡ k) × (j ≡ l)
+pub one_wide_place : (q : Problem) (d : Dictionary) (r c i j k l : ℕ) → FailsFirstAt q d r c i j
+    → FailsFirstAt q d r c k l → (i ≡ k) × (j ≡ l)
 one_wide_place q d r c i j k l a b =
-    in_turn r i j k l (λ h. none_is_not _ a.wide (b.earlier i j a.row_in a.column_in h)) (λ h. none_is_not _ b.wide (a.earlier k l b.row_in b.column_in h))
+    in_turn r i j k l (λ h. none_is_not _ a.wide (b.earlier i j a.row_in a.column_in h))
+    (λ h. none_is_not _ b.wide (a.earlier k l b.row_in b.column_in h))
 
 pub narrow_or_wide : (q : Problem) (d : Dictionary) (r c i j : ℕ) → IsNarrowPivot q d r c → FailsFirstAt q d r c i j → ⊥
-narrow_or_wide q d r c i j narrow wide = none_is_not _ wide.wide (narrow.each i j (let h = wide.row_in in omega arith) (let h = wide.column_in in omega arith))
+narrow_or_wide q d r c i j narrow wide =
+    none_is_not _ wide.wide
+    (narrow.each i j (let h = wide.row_in in omega arith) (let h = wide.column_in in omega arith))
 
 -- ---- the last pivot
 
@@ -162,7 +180,8 @@ last_same (z ∷ zs) (w ∷ ws) x y e =
     let heads : z ≡ w = cc in
     (ap (λ h. h ∷ zs) heads ∙ ap (λ t. w ∷ t) both.0, both.1)
 
-pub width_from : (q : Problem) (u : Option ℤ) (pivots front : List (ℕ × ℕ)) (last : ℕ × ℕ) (row column : ℕ) → pivots ≡ front ++ last ∷ [] → EndsInWidth q u front last row column → PassesWidth q u pivots row column
+pub width_from : (q : Problem) (u : Option ℤ) (pivots front : List (ℕ × ℕ)) (last : ℕ × ℕ) (row column : ℕ)
+    → pivots ≡ front ++ last ∷ [] → EndsInWidth q u front last row column → PassesWidth q u pivots row column
 width_from q u pivots front last row column e h = record {
   front = front;
   last = last;
@@ -173,11 +192,14 @@ width_from q u pivots front last row column e h = record {
   wide = h.wide;
 }
 
-pub width_to : (q : Problem) (u : Option ℤ) (pivots front : List (ℕ × ℕ)) (last : ℕ × ℕ) (row column : ℕ) → pivots ≡ front ++ last ∷ [] → PassesWidth q u pivots row column → EndsInWidth q u front last row column
+pub width_to : (q : Problem) (u : Option ℤ) (pivots front : List (ℕ × ℕ)) (last : ℕ × ℕ) (row column : ℕ)
+    → pivots ≡ front ++ last ∷ [] → PassesWidth q u pivots row column → EndsInWidth q u front last row column
 width_to q u pivots front last row column e h =
     let both = last_same h.front front h.last last (sym h.split ∙ e) in
-    let made : EndsInWidth q u h.front h.last row column = record { steps = h.steps; may = record { open_box = h.open_box; legal = h.legal }; wide = h.wide } in
-    subst (λ l. EndsInWidth q u front l row column) both.1 (subst (λ f. EndsInWidth q u f h.last row column) both.0 made)
+    let made : EndsInWidth q u h.front h.last row column =
+    record { steps = h.steps; may = record { open_box = h.open_box; legal = h.legal }; wide = h.wide } in
+    subst (λ l. EndsInWidth q u front l row column) both.1
+    (subst (λ f. EndsInWidth q u f h.last row column) both.0 made)
 
 pub no_width : (q : Problem) (u : Option ℤ) (row column : ℕ) → PassesWidth q u [] row column → ⊥
 no_width q u row column h = by h.front h.split

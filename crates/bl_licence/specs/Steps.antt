@@ -34,7 +34,8 @@ pub record AreWhole (fs : List Fraction) (common : ℕ) (xs : List ℤ) : Type 0
   pub small : pos common ≤ℤ MAX_PROOF_NUMBER
   pub size : length xs ≡ length fs
   pub each : (k : ℕ) → k < length fs → component xs k ≡ times_multiple common (fraction_at fs k)
-  pub numbers : (k : ℕ) → k < length fs → pos (unsigned_abs (times_multiple common (fraction_at fs k))) ≤ℤ MAX_PROOF_NUMBER
+  pub numbers : (k : ℕ) → k < length fs
+      → pos (unsigned_abs (times_multiple common (fraction_at fs k))) ≤ℤ MAX_PROOF_NUMBER
 
 -- the fraction is above the whole number
 abbrev pub IsAbove : ℤ → Fraction → Type 0
@@ -48,7 +49,8 @@ IsBetween most x = (pos 0 ≤ℤ x.num) × IsAtMost x most
 abbrev pub PassesLimit : ℕ → (ℕ → Fraction) → Type 0
 PassesLimit n f =
     let common = common_denominator n f in
-    (MAX_PROOF_NUMBER <ℤ pos common) ⊎ ((i : ℕ) × (i < n) × (MAX_PROOF_NUMBER <ℤ pos (unsigned_abs (times_multiple common (f i)))))
+    (MAX_PROOF_NUMBER <ℤ pos common)
+    ⊎ ((i : ℕ) × (i < n) × (MAX_PROOF_NUMBER <ℤ pos (unsigned_abs (times_multiple common (f i)))))
 
 -- the dictionary doesn't close the box, and the pivot is legal there
 pub record MayPivot (q : Problem) (u : Option ℤ) (d : Dictionary) (p : ℕ × ℕ) : Type 0 where
@@ -66,8 +68,10 @@ pub record Took (start : Run) (pivots : List (ℕ × ℕ)) (now : Run) : Type 0 
   pub fresh : now.spent ≡ false
   pub added : now.pivots ≡ start.pivots ++ pivots
 
--- the first pivots are steps from the opening dictionary, and the last one is legal there and passes 128 bits first at (row, column)
-pub record EndsInWidth (q : Problem) (u : Option ℤ) (front : List (ℕ × ℕ)) (last : ℕ × ℕ) (row column : ℕ) : Type 0 where
+-- the first pivots are steps from the opening dictionary, and the last one is legal there and passes 128 bits first at
+-- (row, column)
+pub record EndsInWidth (q : Problem) (u : Option ℤ) (front : List (ℕ × ℕ)) (last : ℕ × ℕ)
+    (row column : ℕ) : Type 0 where
   pub steps : AreSteps q u (opening q) front
   pub may : MayPivot q u (replay (opening q) front) last
   pub wide : FailsFirstAt q (replay (opening q) front) last.0 last.1 row column

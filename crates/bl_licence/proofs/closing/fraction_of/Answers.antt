@@ -8,4 +8,5 @@ use Rattle.bl_licence.proofs.closing.fraction_of.Goals as goal
 pub unwrap-requires : goal.unwrap-requires
 unwrap-requires c =
     let back = signed_back c.args.number c.requires in
-    some_if c.reduced.result _ c.reduced.ensures (omega (arith, ints), IsReduced-whole _ (subst (λ z. unsigned_abs z < 2 ^ 127) (sym back) c.requires))
+    some_if c.reduced.result _ c.reduced.ensures
+    (omega (arith, ints), IsReduced-whole _ (subst (λ z. unsigned_abs z < 2 ^ 127) (sym back) c.requires))

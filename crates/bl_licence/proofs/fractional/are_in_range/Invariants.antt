@@ -8,6 +8,7 @@ use Rattle.bl_licence.proofs.fractional.are_in_range.Given as goal
 
 abbrev pub invariant-loop-j : goal.invariant-loop-j
 invariant-loop-j l = record {
-  between : (k : ℕ) → k < l.j → IsBetween (component l.problem.area.hi k -ℤ component l.problem.area.lo k) (fraction_at l.distances k);
+  between : (k : ℕ) → k < l.j
+      → IsBetween (component l.problem.area.hi k -ℤ component l.problem.area.lo k) (fraction_at l.distances k);
   reduced : (k : ℕ) → k < l.j → IsReduced (fraction_at l.distances k);
 }

@@ -4,4 +4,5 @@ use Rattle.bl_terms.specs.Bounds.{linear_at}
 use Rattle.bl_licence.proofs.fractional.meets_rows.Given as goal
 
 abbrev pub invariant-loop-i : goal.invariant-loop-i
-invariant-loop-i l = (k : ℕ) → k < l.i → dot (linear_at l.problem.rows k).coef l.point ≤ℤ ((linear_at l.problem.rows k).rhs *ℤ pos l.common)
+invariant-loop-i l = (k : ℕ) → k < l.i
+    → dot (linear_at l.problem.rows k).coef l.point ≤ℤ ((linear_at l.problem.rows k).rhs *ℤ pos l.common)

@@ -7,7 +7,8 @@ use Rattle.bl_licence.proofs.vertex.row_labelled.Given as goal
 abbrev pub invariant-loop-left : goal.invariant-loop-left
 invariant-loop-left l = record {
   within : l.left ≤ cost_row l.tableau.problem;
-  searched : labelled (cost_row l.tableau.problem) (current l.tableau).row_label l.label ≡ labelled l.left (current l.tableau).row_label l.label;
+  searched : labelled (cost_row l.tableau.problem) (current l.tableau).row_label l.label
+      ≡ labelled l.left (current l.tableau).row_label l.label;
 }
 
 abbrev pub decreases-loop-left : goal.decreases-loop-left

@@ -21,7 +21,8 @@ returns-in-Wide c =
     let u = c.args.cutoff in
     let r = c.passes_width.result in
     let Test : Why → Type 0 = λ w. IfOk r (λ b. IsTrue b ↔ IsLicence q u w) in
-    let ByList : List (ℕ × ℕ) → Type 0 = λ ps. IfOk r (λ b. IsTrue b ↔ PassesWidth q u ps c.in-Wide.row c.in-Wide.column) in
+    let ByList : List (ℕ × ℕ) → Type 0 =
+    λ ps. IfOk r (λ b. IsTrue b ↔ PassesWidth q u ps c.in-Wide.row c.in-Wide.column) in
     subst Test (sym c.in-Wide.is) (subst ByList c.as_slice-in-Wide.ensures c.passes_width.ensures)
 
 pub returns-in-Tired : goal.returns-in-Tired
