@@ -1,5 +1,8 @@
 -- A canonical text reads back.
-use Rattle.std.proofs.Common.{◌≡◌, ◌≢◌, ℕ, zero, suc, ◌+◌, ◌^◌, ◌<◌, ◌≤◌, Bool, true, false, cond, eqb, ltb, nat_eq, List, [], ◌∷◌, ◌++◌, length, get_or, map, Option, Some, None, Ok, Err, Result, refl, sym, ap, subst, ◌∙◌, arith, ℤ, pos, negsuc, codes, unsigned_abs, append_assoc, length-append, inl, inr}
+use Rattle.std.proofs.Common.{◌≡◌, ◌≢◌, ℕ, zero, suc, ◌+◌, ◌^◌, ◌<◌, ◌≤◌, Bool, true, false, cond, eqb, ltb, nat_eq}
+use Rattle.std.proofs.Common.{List, [], ◌∷◌, ◌++◌, length, get_or, map, Option, Some, None, Ok, Err, Result, refl, sym}
+use Rattle.std.proofs.Common.{ap, subst, ◌∙◌, arith, ℤ, pos, negsuc, codes, unsigned_abs, append_assoc, length-append}
+use Rattle.std.proofs.Common.{inl, inr}
 use Rattle.std.specs.List.{flat_map, list_any, All, AllByRecursion, IsDistinct}
 use Rattle.std.specs.Ordering.{int_eq}
 use Rattle.std.proofs.lemmas.Bool.{lt-ltb, le-ltb, eqb-true, ne_eqb}
@@ -20,7 +23,8 @@ use Rattle.bl_aux.specs.declared.keys.Key.TheVariants.{N, M, Lc, Lr, Lo, Os}
 use Rattle.bl_aux.specs.declared.fault.AuxFault.{AuxFault}
 use Rattle.bl_aux.specs.declared.fault.AuxRule.{AuxRule}
 use Rattle.bl_aux.specs.Lines.{is_large}
-use Rattle.bl_aux.specs.Given.{Given, Sizes, is_below, bad_index, index_rule, sense_rule, entry_rule, entries_of, given_by}
+use Rattle.bl_aux.specs.Given.{Given, Sizes, is_below, bad_index, index_rule, sense_rule, entry_rule, entries_of}
+use Rattle.bl_aux.specs.Given.{given_by}
 use Rattle.bl_aux.specs.Texts.{CountsAgree, IsGiven, Says, sense_of}
 use Rattle.bl_aux.specs.Canonical.{aux_text, number_line, number_lines}
 use Rattle.bl_aux.specs.Laws.{ReadsBack}

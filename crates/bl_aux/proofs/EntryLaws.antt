@@ -1,5 +1,6 @@
 -- What one more line gives.
-use Rattle.std.proofs.Common.{◌≡◌, ℕ, cond, List, [], ◌∷◌, ◌++◌, Option, Some, None, Ok, Err, Result, refl, sym, ap, ◌∙◌, ℤ}
+use Rattle.std.proofs.Common.{◌≡◌, ℕ, cond, List, [], ◌∷◌, ◌++◌, Option, Some, None, Ok, Err, Result, refl, sym, ap}
+use Rattle.std.proofs.Common.{◌∙◌, ℤ}
 use Rattle.std.specs.List.{filter_map}
 use Rattle.std.proofs.lemmas.List.{append-nil}
 use Rattle.std.proofs.lemmas.List.Elements.{filter_map-append}
@@ -9,7 +10,8 @@ use Rattle.bl_aux.specs.declared.keys.Key.TheVariants.{N, M, Lc, Lr, Lo, Os}
 use Rattle.bl_aux.specs.declared.line.Entry.{Entry}
 use Rattle.bl_aux.specs.declared.fault.AuxRule.{AuxRule}
 use Rattle.bl_aux.specs.Lines.{said, line_said}
-use Rattle.bl_aux.specs.Given.{Given, Sizes, is_key, entry_of, entries_of, numbers_of, given_by, entry_rule, said_rule, fields_rule, line_rule}
+use Rattle.bl_aux.specs.Given.{Given, Sizes, is_key, entry_of, entries_of, numbers_of, given_by, entry_rule, said_rule}
+use Rattle.bl_aux.specs.Given.{fields_rule, line_rule}
 use Rattle.bl_aux.specs.Drafts.{Holding, with_number, with_entry, ruled, entered, after_line}
 
 -- what is held after these lines

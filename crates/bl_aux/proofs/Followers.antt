@@ -1,5 +1,7 @@
 -- What a text says is a follower of the model.
-use Rattle.std.proofs.Common.{◌≡◌, ◌≢◌, ℕ, zero, suc, ◌<◌, Bool, true, false, cond, List, [], ◌∷◌, ◌++◌, length, map, get_or, Option, Some, None, refl, sym, ap, subst, ◌∙◌, arith, inl, inr, ℤ, pos, negsuc, ◌||◌, unsigned_abs}
+use Rattle.std.proofs.Common.{◌≡◌, ◌≢◌, ℕ, zero, suc, ◌<◌, Bool, true, false, cond, List, [], ◌∷◌, ◌++◌, length, map}
+use Rattle.std.proofs.Common.{get_or, Option, Some, None, refl, sym, ap, subst, ◌∙◌, arith, inl, inr, ℤ, pos, negsuc}
+use Rattle.std.proofs.Common.{◌||◌, unsigned_abs}
 use Rattle.std.specs.List.{All, AllPairs, list_any}
 use Rattle.std.specs.Ordering.{int_eq}
 use Rattle.std.proofs.lemmas.Bool.{ltb-false, ltb-true, false≢true}
@@ -16,7 +18,8 @@ use Rattle.bl_aux.specs.declared.keys.Key.TheVariants.{N, M, Lc, Lr, Lo, Os}
 use Rattle.bl_aux.specs.declared.fault.AuxRule.{AuxRule}
 use Rattle.bl_aux.specs.declared.fault.AuxRule.TheVariants.{OutOfOrder, Repeated, BadSense}
 use Rattle.bl_aux.specs.Lines.{is_large}
-use Rattle.bl_aux.specs.Given.{Given, Sizes, is_out_of_order, is_below, bad_index, index_rule, sense_rule, key_rule, entry_rule}
+use Rattle.bl_aux.specs.Given.{Given, Sizes, is_out_of_order, is_below, bad_index, index_rule, sense_rule, key_rule}
+use Rattle.bl_aux.specs.Given.{entry_rule}
 use Rattle.bl_aux.specs.Texts.{CountsAgree, IsGiven, sense_of}
 use Rattle.bl_aux.specs.Drafts.{with_number}
 

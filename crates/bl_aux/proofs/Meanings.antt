@@ -1,5 +1,7 @@
 -- Each text says a follower or has a first fault.
-use Rattle.std.proofs.Common.{◌≡◌, ◌≢◌, ◌⊎◌, ℕ, suc, ◌+◌, ◌≤◌, Bool, true, false, List, [], ◌∷◌, length, map, Option, Some, None, Ok, Err, Result, refl, sym, ap, subst, ◌∙◌, arith, inl, inr, ℤ, pos, negsuc, unsigned_abs}
+use Rattle.std.proofs.Common.{◌≡◌, ◌≢◌, ◌⊎◌, ℕ, suc, ◌+◌, ◌≤◌, Bool, true, false, List, [], ◌∷◌, length, map, Option}
+use Rattle.std.proofs.Common.{Some, None, Ok, Err, Result, refl, sym, ap, subst, ◌∙◌, arith, inl, inr, ℤ, pos, negsuc}
+use Rattle.std.proofs.Common.{unsigned_abs}
 use Rattle.std.specs.List.{All}
 use Rattle.std.specs.Ordering.{int_eq}
 use Rattle.std.proofs.lemmas.Bool.{cases_lt, cases_eq, false≢true}
@@ -11,7 +13,8 @@ use Rattle.bl_aux.specs.declared.fault.AuxRule.{AuxRule}
 use Rattle.bl_aux.specs.declared.fault.AuxRule.TheVariants.{CountDiffers, TooLong}
 use Rattle.bl_aux.specs.declared.fault.AuxFault.{AuxFault}
 use Rattle.bl_aux.specs.Given.{Given, Sizes, is_below, entries_of, given_by}
-use Rattle.bl_aux.specs.Texts.{KeepsRules, CountsAgree, IsGiven, Says, BreaksFirst, IsFirstFault, too_long, at_line, of_whole, sense_of}
+use Rattle.bl_aux.specs.Texts.{KeepsRules, CountsAgree, IsGiven, Says, BreaksFirst, IsFirstFault, too_long, at_line}
+use Rattle.bl_aux.specs.Texts.{of_whole, sense_of}
 use Rattle.bl_aux.specs.Drafts.{Holding, after_lines}
 use Rattle.bl_aux.specs.Laws.{TellsOne}
 use Rattle.bl_aux.proofs.EntryLaws.{held_by}

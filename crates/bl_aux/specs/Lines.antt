@@ -1,9 +1,11 @@
 -- Trusted. What a line of an auxiliary text says by itself, and which rule it breaks by itself.
-use Rattle.std.specs.Prelude.{ℕ, ℤ, Bool, false, ◌||◌, ◌==◌, nat_lt, List, [], ◌∷◌, Option, None, Some, Result, Ok, Err, codes, slice_index, slice_index_or, unsigned_abs, if◌then◌else◌}
+use Rattle.std.specs.Prelude.{ℕ, ℤ, Bool, false, ◌||◌, ◌==◌, nat_lt, List, [], ◌∷◌, Option, None, Some, Result, Ok, Err}
+use Rattle.std.specs.Prelude.{codes, slice_index, slice_index_or, unsigned_abs, if◌then◌else◌}
 use Rattle.std.specs.Str.{bytes_eq}
 use Rattle.bl_limits.specs.declared.TheConstants.{MAX_NUMBER}
 use Rattle.bl_num.specs.declared.fault.NumFault.{NumFault}
-use Rattle.bl_num.specs.declared.fault.NumFault.TheVariants.{NotNumber, NotWhole as NumNotWhole, TooLarge as NumTooLarge}
+use Rattle.bl_num.specs.declared.fault.NumFault.TheVariants.{NotNumber, NotWhole as NumNotWhole}
+use Rattle.bl_num.specs.declared.fault.NumFault.TheVariants.{TooLarge as NumTooLarge}
 use Rattle.bl_num.specs.Numbers.{read_of}
 use Rattle.bl_aux.specs.declared.keys.Key.{Key}
 use Rattle.bl_aux.specs.declared.line.Entry.{Entry}

@@ -1,5 +1,6 @@
 -- Trusted. The follower that an auxiliary text says, and the first rule that a text breaks.
-use Rattle.std.specs.Prelude.{◌≡◌, ℕ, ◌+◌, ◌<◌, ◌≤◌, ℤ, pos, List, [], ◌∷◌, length, map, None, Some, take, slice_index_or}
+use Rattle.std.specs.Prelude.{◌≡◌, ℕ, ◌+◌, ◌<◌, ◌≤◌, ℤ, pos, List, [], ◌∷◌, length, map, None, Some, take}
+use Rattle.std.specs.Prelude.{slice_index_or}
 use Rattle.bl_limits.specs.declared.TheConstants.{MAX_TEXT_BYTES}
 use Rattle.bl_text.specs.Lines.{lines_of}
 use Rattle.bl_raw.specs.declared.raw.RawAux.{RawAux}

@@ -1,5 +1,7 @@
 -- Proofs of one row or of the cost alone, and boxes of one point.
-use Rattle.std.proofs.Common.{◌≡◌, ◌≢◌, ℕ, zero, suc, ◌<◌, ◌⊎◌, inl, inr, Bool, true, false, cond, List, ◌∷◌, length, ℤ, pos, ◌+ℤ◌, ◌-ℤ◌, ◌*ℤ◌, ◌≤ℤ◌, ◌<ℤ◌, refl, sym, ap, ◌∙◌, subst, arith, get_or-set_same, get_or-set_other}
+use Rattle.std.proofs.Common.{◌≡◌, ◌≢◌, ℕ, zero, suc, ◌<◌, ◌⊎◌, inl, inr, Bool, true, false, cond, List, ◌∷◌, length, ℤ}
+use Rattle.std.proofs.Common.{pos, ◌+ℤ◌, ◌-ℤ◌, ◌*ℤ◌, ◌≤ℤ◌, ◌<ℤ◌, refl, sym, ap, ◌∙◌, subst, arith, get_or-set_same}
+use Rattle.std.proofs.Common.{get_or-set_other}
 use Rattle.std.specs.Prelude.{Option, Some, None, slice_set, int_lt}
 use Rattle.std.proofs.Math.ListN.{replicate}
 use Rattle.std.proofs.lemmas.Bool.{cases_eq}
@@ -7,12 +9,15 @@ use Rattle.std.proofs.lemmas.List.{length-set}
 use Rattle.std.proofs.lemmas.Int.{ints, by_lt_z}
 use Rattle.bl_whole.specs.Sums.{component, sum_below, dot}
 use Rattle.bl_whole.proofs.Products.{one-*ℤ}
-use Rattle.bl_whole.proofs.SumLemmas.{sum_below-agree, sum_below-zero, sum_below_isolate, without, without-other, without-same}
+use Rattle.bl_whole.proofs.SumLemmas.{sum_below-agree, sum_below-zero, sum_below_isolate, without, without-other}
+use Rattle.bl_whole.proofs.SumLemmas.{without-same}
 use Rattle.bl_limits.specs.declared.TheConstants.{MAX_PROOF_NUMBER}
 use Rattle.bl_terms.specs.Points.{zeros}
-use Rattle.bl_terms.specs.Bounds.{Problem, IsProblem, linear_at, Multipliers, Proves, reduced_cost, least_product, least_term, rhs_sum, dual_bound, target_of}
+use Rattle.bl_terms.specs.Bounds.{Problem, IsProblem, linear_at, Multipliers, Proves, reduced_cost, least_product}
+use Rattle.bl_terms.specs.Bounds.{least_term, rhs_sum, dual_bound, target_of}
 use Rattle.bl_terms.proofs.BoundLemmas.{weak_duality, no_cutoff_no_point}
-use Rattle.bl_bound.specs.Plain.{row_alone, cost_alone, NoRowAlone, IsPlainProof, IsOnePoint, CostsLess, IsBetterPoint, OnePointClause}
+use Rattle.bl_bound.specs.Plain.{row_alone, cost_alone, NoRowAlone, IsPlainProof, IsOnePoint, CostsLess, IsBetterPoint}
+use Rattle.bl_bound.specs.Plain.{OnePointClause}
 use Rattle.bl_bound.specs.Sums.{least_value, RowCloses, CostCloses, IsFirstClosing}
 
 -- ---- lists of zeros, and of one 1

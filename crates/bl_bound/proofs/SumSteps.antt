@@ -1,5 +1,6 @@
 -- Steps of the loops that add up a bound proof.
-use Rattle.std.proofs.Common.{◌≡◌, ◌≢◌, ℕ, ◌+◌, ◌*◌, Bool, true, false, cond, ◌<◌, ◌≤◌, ◌⊎◌, inl, inr, List, length, ℤ, pos, ◌+ℤ◌, ◌*ℤ◌, sym, ap, ◌∙◌, subst, arith, get_or-set_same, get_or-set_other}
+use Rattle.std.proofs.Common.{◌≡◌, ◌≢◌, ℕ, ◌+◌, ◌*◌, Bool, true, false, cond, ◌<◌, ◌≤◌, ◌⊎◌, inl, inr, List, length, ℤ}
+use Rattle.std.proofs.Common.{pos, ◌+ℤ◌, ◌*ℤ◌, sym, ap, ◌∙◌, subst, arith, get_or-set_same, get_or-set_other}
 use Rattle.std.specs.Prelude.{slice_set, slice_index_or, int_lt}
 use Rattle.std.proofs.lemmas.Bool.{cases_eq}
 use Rattle.bl_whole.specs.Sums.{component}

@@ -2,7 +2,8 @@
 ghost use Rattle.std.specs.Prelude.{◌≡◌, ◌↔◌, ℕ, ◌<◌, ◌≤◌, length, IsTrue, IfOk, MatchOption};
 ghost use Rattle.bl_whole.specs.Within.{AreWithin};
 ghost use Rattle.bl_terms.specs.Bounds.{Fits, linear_at};
-ghost use Rattle.bl_bound.specs.Plain.{IsPlainProof, OnePointClause, row_alone as row_alone_of, cost_alone as cost_alone_of};
+ghost use Rattle.bl_bound.specs.Plain.{IsPlainProof, OnePointClause, row_alone as row_alone_of};
+ghost use Rattle.bl_bound.specs.Plain.{cost_alone as cost_alone_of};
 ghost use Rattle.bl_bound.specs.Sums.{least_value as least_value_of, RowCloses, CostCloses, IsFirstClosing};
 
 use crate::problem::Problem;
@@ -45,7 +46,8 @@ fn row_closes(problem: &Problem<'_>, row: usize) -> bool
 /// The first row that alone is a proof.
 fn first_row_alone(problem: &Problem<'_>) -> Option<usize>
     requires { Fits problem.now }
-    ensures { MatchOption result ((r : ℕ) → r < length problem.now.rows → ¬ RowCloses problem.now r) (IsFirstClosing problem.now) }
+    ensures { MatchOption result ((r : ℕ) → r < length problem.now.rows → ¬ RowCloses problem.now r)
+        (IsFirstClosing problem.now) }
 {
     for row in 0..problem.rows().len() {
         if row_closes(problem, row) {

@@ -56,9 +56,11 @@ impl<'a> Model for Problem<'a> {
 
     ghost Value = { BoundedProblem };
 
-    ghost view = { λ p. record { rows = p.rows.items; cost = p.cost.now; area = record { lo = p.lo.now; hi = p.hi.now } } };
+    ghost view = { λ p. record
+        { rows = p.rows.items; cost = p.cost.now; area = record { lo = p.lo.now; hi = p.hi.now } } };
 
-    ghost invariant = { λ p. IsProblem (record { rows = p.rows.items; cost = p.cost.now; area = record { lo = p.lo.now; hi = p.hi.now } }) };
+    ghost invariant = { λ p. IsProblem
+        (record { rows = p.rows.items; cost = p.cost.now; area = record { lo = p.lo.now; hi = p.hi.now } }) };
 }
 
 impl<'a> Problem<'a> {
@@ -79,7 +81,8 @@ impl<'a> Problem<'a> {
     /// Adds the row `coef · z <= rhs` at the end. After an error the problem is as before.
     pub fn row(&mut self, coef: &'a [i64], rhs: i64) -> Result<(), AllocError>
         requires { length coef.now ≡ length self.old.area.lo }
-        ensures ok { OnOk result (self.new ≡ record self.old { rows = self.old.rows ++ record { coef = coef.now; rhs = rhs } ∷ [] }) }
+        ensures ok { OnOk result
+            (self.new ≡ record self.old { rows = self.old.rows ++ record { coef = coef.now; rhs = rhs } ∷ [] }) }
         ensures err { OnErr result (self.new ≡ self.old) }
     {
         self.rows.push(ProblemRow { coef, rhs })?;

@@ -2,7 +2,8 @@
 ghost use Rattle.std.specs.Prelude.{◌≡◌, ◌↔◌, ℕ, ◌<◌, ◌≤◌, pos, ◌+ℤ◌, ◌*ℤ◌, ◌≤ℤ◌, length, IsTrue, FitsSigned};
 ghost use Rattle.std.specs.Int.{w128};
 ghost use Rattle.bl_whole.specs.Sums.{component, sum_below};
-ghost use Rattle.bl_terms.specs.Bounds.{Fits, AreMultipliers, Proves, SumsFit, dual_bound as dual_bound_of, target_of, least_term, least_product as least_product_of, rhs_sum};
+ghost use Rattle.bl_terms.specs.Bounds.{Fits, AreMultipliers, Proves, SumsFit, dual_bound as dual_bound_of, target_of};
+ghost use Rattle.bl_terms.specs.Bounds.{least_term, least_product as least_product_of, rhs_sum};
 ghost use Rattle.bl_bound.specs.Sums.{rows_part, IsWellFormed};
 
 use crate::problem::Problem;
@@ -35,7 +36,8 @@ fn is_proof_number(number: i64) -> bool
 }
 
 fn are_proof_numbers(numbers: &[i64]) -> bool
-    ensures { IsTrue result ↔ ((k : ℕ) → k < length numbers.now → (pos 0 ≤ℤ component numbers.now k) × (component numbers.now k ≤ℤ MAX_PROOF_NUMBER)) }
+    ensures { IsTrue result ↔ ((k : ℕ) → k < length numbers.now → (pos 0 ≤ℤ component numbers.now k)
+        × (component numbers.now k ≤ℤ MAX_PROOF_NUMBER)) }
 {
     for number in numbers {
         if !is_proof_number(*number) {
@@ -73,7 +75,8 @@ fn add_rows(problem: &Problem<'_>, proof: &Proof, sums: &mut [i128]) -> i128
     requires fits { SumsFit problem.now proof.now }
     requires places { length problem.now.area.lo ≤ length sums.old }
     requires zeros { (j : ℕ) → j < length sums.old → component sums.old j ≡ pos 0 }
-    ensures columns { (j : ℕ) → j < length problem.now.area.lo → component sums.new j ≡ rows_part problem.now proof.now (length problem.now.rows) j }
+    ensures columns { (j : ℕ) → j < length problem.now.area.lo
+        → component sums.new j ≡ rows_part problem.now proof.now (length problem.now.rows) j }
     ensures rhs { result ≡ rhs_sum problem.now proof.now }
 {
     let rows = problem.rows();
@@ -100,7 +103,8 @@ fn least_term_of(den: i64, cost: i64, sum: i128, lo: i64, hi: i64) -> i128
 fn least_sum(problem: &Problem<'_>, proof: &Proof, sums: &[i128]) -> i128
     requires fits { SumsFit problem.now proof.now }
     requires places { length problem.now.area.lo ≤ length sums.now }
-    requires columns { (j : ℕ) → j < length problem.now.area.lo → component sums.now j ≡ rows_part problem.now proof.now (length problem.now.rows) j }
+    requires columns { (j : ℕ) → j < length problem.now.area.lo
+        → component sums.now j ≡ rows_part problem.now proof.now (length problem.now.rows) j }
     ensures { result ≡ sum_below (length problem.now.area.lo) (least_term problem.now proof.now) }
 {
     let cost = problem.cost();

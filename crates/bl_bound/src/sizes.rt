@@ -21,7 +21,8 @@ pub(crate) fn are_within(numbers: &[i64], most: u64) -> bool
 /// Whether the coefficients and right-hand sides of the rows are small enough.
 pub(crate) fn rows_fit(rows: &[ProblemRow<'_>]) -> bool
     ensures { IsTrue result ↔ ((i : ℕ) → i < length rows.now →
-        AreWithin MAX_PROBLEM_COEFFICIENT (linear_at rows.now i).coef × IsWithin MAX_PROBLEM_RHS (linear_at rows.now i).rhs) }
+        AreWithin MAX_PROBLEM_COEFFICIENT (linear_at rows.now i).coef
+        × IsWithin MAX_PROBLEM_RHS (linear_at rows.now i).rhs) }
 {
     for i in 0..rows.len() {
         let row = &rows[i];

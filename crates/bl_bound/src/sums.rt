@@ -20,8 +20,10 @@ pub(crate) fn least_product(factor: i128, lo: i64, hi: i64) -> i128
 /// Adds to each sum `factor` times the number at its place.
 fn add_multiple(sums: &mut [i128], factor: i64, numbers: &[i64])
     requires places { length numbers.now ≤ length sums.old }
-    requires fits { (j : ℕ) → j < length numbers.now → FitsSigned w128 (component sums.old j +ℤ factor *ℤ component numbers.now j) }
-    ensures { (j : ℕ) → j < length numbers.now → component sums.new j ≡ component sums.old j +ℤ factor *ℤ component numbers.now j }
+    requires fits { (j : ℕ) → j < length numbers.now
+        → FitsSigned w128 (component sums.old j +ℤ factor *ℤ component numbers.now j) }
+    ensures { (j : ℕ) → j < length numbers.now
+        → component sums.new j ≡ component sums.old j +ℤ factor *ℤ component numbers.now j }
 {
     for j in 0..numbers.len() {
         sums[j] = plus_widening_product(sums[j], factor, numbers[j]);
@@ -31,9 +33,11 @@ fn add_multiple(sums: &mut [i128], factor: i64, numbers: &[i64])
 /// Adds `factor` times a row to the sums of its columns, and gives `rhs` with `factor` times its right-hand side.
 pub(crate) fn add_row(sums: &mut [i128], rhs: i128, factor: i64, row: &ProblemRow<'_>) -> i128
     requires places { length row.now.coef ≤ length sums.old }
-    requires fits { (j : ℕ) → j < length row.now.coef → FitsSigned w128 (component sums.old j +ℤ factor *ℤ component row.now.coef j) }
+    requires fits { (j : ℕ) → j < length row.now.coef
+        → FitsSigned w128 (component sums.old j +ℤ factor *ℤ component row.now.coef j) }
     requires rhs_fits { FitsSigned w128 (rhs +ℤ factor *ℤ row.now.rhs) }
-    ensures columns { (j : ℕ) → j < length row.now.coef → component sums.new j ≡ component sums.old j +ℤ factor *ℤ component row.now.coef j }
+    ensures columns { (j : ℕ) → j < length row.now.coef
+        → component sums.new j ≡ component sums.old j +ℤ factor *ℤ component row.now.coef j }
     ensures rhs { result ≡ rhs +ℤ factor *ℤ row.now.rhs }
 {
     if factor == 0 {

@@ -1,18 +1,22 @@
 -- How clap walks over the words that are understood.
-use Rattle.std.proofs.Common.{◌≡◌, ℕ, Bool, true, false, cond, eqb, List, [], ◌∷◌, ◌++◌, Option, Some, None, refl, sym, ap, subst, ◌∙◌, codes, not, ◌&&◌, fold, is_some}
+use Rattle.std.proofs.Common.{◌≡◌, ℕ, Bool, true, false, cond, eqb, List, [], ◌∷◌, ◌++◌, Option, Some, None, refl, sym}
+use Rattle.std.proofs.Common.{ap, subst, ◌∙◌, codes, not, ◌&&◌, fold, is_some}
 use Rattle.std.specs.Str.{bytes_eq}
 use Rattle.std.specs.List.{list_all}
 use Rattle.clap.specs.Lexer.{long_of, short_of}
-use Rattle.clap.specs.Walk.{Walk, Held, Row, Rule, idle, option, value, walked, walk_from, nothing_held, to_positional, arg_by_index, arg_by_id, option_word, finished}
+use Rattle.clap.specs.Walk.{Walk, Held, Row, Rule, idle, option, value, walked, walk_from, nothing_held, to_positional}
+use Rattle.clap.specs.Walk.{arg_by_index, arg_by_id, option_word, finished}
 use Rattle.clap.specs.declared.parser.matches.ValueSource.TheVariants.{CommandLine}
 use Rattle.clap.specs.declared.builder.value_parser.Reading.TheVariants.{AsWritten}
 use Rattle.clap.proofs.OnLiterals.{clap_on_literals}
-use Rattle.clap.specs.Takes.{takes, turn_passes, step_passes, walk_passes, settle_passes, default_passes, is_valid, entered_passes}
+use Rattle.clap.specs.Takes.{takes, turn_passes, step_passes, walk_passes, settle_passes, default_passes, is_valid}
+use Rattle.clap.specs.Takes.{entered_passes}
 use Rattle.clap.specs.Words.{first_of}
 use Rattle.clap.specs.Simple.{Shape, built, entered, matches_of}
 use Rattle.bl_words.specs.Commands.{is_plain}
 use Rattle.bl_command_line.specs.Apps.{model_app}
-use Rattle.bl_command_line.proofs.Orders.{FilesUpper, last_apart, last_joined, amid_apart, amid_joined, first_apart, first_joined}
+use Rattle.bl_command_line.proofs.Orders.{FilesUpper, last_apart, last_joined, amid_apart, amid_joined, first_apart}
+use Rattle.bl_command_line.proofs.Orders.{first_joined}
 
 abbrev pub Text : Type 0
 Text = List ℕ

@@ -1,5 +1,6 @@
 //! The words of each command.
-ghost use Rattle.std.specs.Prelude.{◌≡◌, ℕ, ℤ, List, Some, IsSome, map, string_bytes, codes, IfOk, IfErr, IfSome, IfNone};
+ghost use Rattle.std.specs.Prelude.{◌≡◌, ℕ, ℤ, List, Some, IsSome, map, string_bytes, codes, IfOk, IfErr, IfSome};
+ghost use Rattle.std.specs.Prelude.{IfNone};
 ghost use Rattle.std.specs.Option.{option_to_list};
 ghost use Rattle.clap.specs.Words.{first_value, found_of, kind_of};
 ghost use Rattle.clap.specs.declared.error.kind.ErrorKind.{ErrorKind};

@@ -1,6 +1,9 @@
 -- The greatest common divisor divides both numbers, and each common divisor divides it.
 use Rattle.std.proofs.Common.{◌≡◌, ℕ, zero, suc, ◌*◌, ◌/◌, ◌%◌, ◌<◌, ◌≤◌, refl, sym, ap, ◌∙◌, subst, arith}
-use Rattle.std.proofs.Math.Nat.{le_of_dvd, dvd-zero, dvd_trans, dvd_antisymm, dvd-mul_left, dvd-mul_right, dvd-mul_left_of_dvd, eq-one_of_dvd-one, pos_of_dvd_of_pos, mul-dvd-mul_left, dvd_of_mul-dvd-mul_left, mul-div_cancel', div-mul_cancel, mul_comm, eq_of_mul-eq-mul_left}
+use Rattle.std.proofs.Math.Nat.{le_of_dvd, dvd-zero, dvd_trans, dvd_antisymm, dvd-mul_left, dvd-mul_right}
+use Rattle.std.proofs.Math.Nat.{dvd-mul_left_of_dvd, eq-one_of_dvd-one, pos_of_dvd_of_pos, mul-dvd-mul_left}
+use Rattle.std.proofs.Math.Nat.{dvd_of_mul-dvd-mul_left, mul-div_cancel', div-mul_cancel, mul_comm}
+use Rattle.std.proofs.Math.Nat.{eq_of_mul-eq-mul_left}
 use Rattle.std.specs.Int.{IsGcd, ◌∣◌}
 use Rattle.std.proofs.lemmas.Nat.Gcd.{IsGcd-from_zero, IsGcd-from_mod, IsGcd-swap, same_from_IsGcd}
 use Rattle.std.proofs.lemmas.Nat.{mod_below}

@@ -1,11 +1,13 @@
 -- What the arithmetic makes is in lowest terms, with narrow parts.
-use Rattle.std.proofs.Common.{◌≡◌, ℕ, zero, suc, ◌*◌, ◌/◌, ◌^◌, ◌<◌, ◌≤◌, ℤ, pos, negsuc, neg_ℤ, ◌-ℤ◌, ◌*ℤ◌, true, false, to_z, of_z, unsigned_abs, int_div, refl, sym, ap, ◌∙◌, subst, arith}
+use Rattle.std.proofs.Common.{◌≡◌, ℕ, zero, suc, ◌*◌, ◌/◌, ◌^◌, ◌<◌, ◌≤◌, ℤ, pos, negsuc, neg_ℤ, ◌-ℤ◌, ◌*ℤ◌, true}
+use Rattle.std.proofs.Common.{false, to_z, of_z, unsigned_abs, int_div, refl, sym, ap, ◌∙◌, subst, arith}
 use Rattle.std.specs.Int.{w128}
 use Rattle.std.specs.Int.Signed.{lt_z}
 use Rattle.std.proofs.lemmas.Int.{ints, unsigned_abs-mul}
 use Rattle.std.proofs.Math.Nat.{div-le_self}
 use Rattle.bl_simplex.specs.Gcd.{gcd}
-use Rattle.bl_simplex.specs.Fractions.{Fraction, IsReduced, lowest, with_sign_of, reciprocal, sum_top, sum_bottom, product_top, product_bottom}
+use Rattle.bl_simplex.specs.Fractions.{Fraction, IsReduced, lowest, with_sign_of, reciprocal, sum_top, sum_bottom}
+use Rattle.bl_simplex.specs.Fractions.{product_top, product_bottom}
 use Rattle.bl_frac.proofs.GcdLaws.{gcd_comm, gcd_one, gcd_dvd_left, gcd_dvd_right, coprime_shares, share_positive}
 use Rattle.bl_frac.proofs.Signed.{signed_back, signed_of}
 use Rattle.bl_frac.proofs.Ratios.{not_below_zero, product_positive}

@@ -1,6 +1,7 @@
 -- Least common multiples.
 use Rattle.std.proofs.Common.{◌≡◌, ℕ, zero, suc, ◌*◌, ◌/◌, ◌<◌, sym, ap, ◌∙◌, subst, arith}
-use Rattle.std.proofs.Math.Nat.{dvd-zero, dvd-mul_left, dvd-mul_right, mul_comm, div-mul_cancel, mul-div_cancel', mul-dvd-mul_left, dvd_of_mul-dvd-mul_left, pos_of_dvd_of_pos, eq-zero_of_zero-dvd}
+use Rattle.std.proofs.Math.Nat.{dvd-zero, dvd-mul_left, dvd-mul_right, mul_comm, div-mul_cancel, mul-div_cancel'}
+use Rattle.std.proofs.Math.Nat.{mul-dvd-mul_left, dvd_of_mul-dvd-mul_left, pos_of_dvd_of_pos, eq-zero_of_zero-dvd}
 use Rattle.std.specs.Int.{◌∣◌}
 use Rattle.bl_simplex.specs.Gcd.{gcd, lcm}
 use Rattle.bl_frac.specs.Laws.{DivisorLaw, MultipleLaw}

@@ -1,18 +1,25 @@
 -- The results of the operations are the rational ones.
-use Rattle.std.proofs.Common.{◌≡◌, ℕ, zero, suc, ◌*◌, ◌/◌, ◌^◌, ◌<◌, inl, inr, ℤ, pos, negsuc, neg_ℤ, ◌+ℤ◌, ◌*ℤ◌, unsigned_abs, int_div, refl, sym, ap, ◌∙◌, subst, arith}
+use Rattle.std.proofs.Common.{◌≡◌, ℕ, zero, suc, ◌*◌, ◌/◌, ◌^◌, ◌<◌, inl, inr, ℤ, pos, negsuc, neg_ℤ, ◌+ℤ◌, ◌*ℤ◌}
+use Rattle.std.proofs.Common.{unsigned_abs, int_div, refl, sym, ap, ◌∙◌, subst, arith}
 use Rattle.std.specs.Prelude.{Some}
 use Rattle.std.proofs.Math.Nat.{mul_comm, div-mul_cancel}
 use Rattle.std.proofs.Math.IntN.{*ℤ_comm}
 use Rattle.bl_simplex.specs.Gcd.{gcd}
-use Rattle.bl_simplex.specs.Fractions.{Fraction, IsReduced, lowest, negated, reciprocal, with_sign_of, sum_left, sum_right, sum_top, sum_bottom, sum_of, difference_of, product_top, product_bottom, product_of, quotient_of}
-use Rattle.bl_frac.specs.Laws.{IsQuotient, IsSum, IsDifference, IsProduct, IsWideSum, IsWideProduct, Gives, QuotientGives, FailsWhere}
+use Rattle.bl_simplex.specs.Fractions.{Fraction, IsReduced, lowest, negated, reciprocal, with_sign_of, sum_left}
+use Rattle.bl_simplex.specs.Fractions.{sum_right, sum_top, sum_bottom, sum_of, difference_of, product_top}
+use Rattle.bl_simplex.specs.Fractions.{product_bottom, product_of, quotient_of}
+use Rattle.bl_frac.specs.Laws.{IsQuotient, IsSum, IsDifference, IsProduct, IsWideSum, IsWideProduct, Gives}
+use Rattle.bl_frac.specs.Laws.{QuotientGives, FailsWhere}
 use Rattle.bl_frac.proofs.GcdLaws.{gcd_dvd_left, gcd_dvd_right, share_positive}
 use Rattle.bl_whole.proofs.Products.{*ℤ_assoc, +ℤ-*ℤ, *ℤ-neg_ℤ, neg_ℤ-*ℤ}
 use Rattle.bl_frac.proofs.WholeLaws.{neg-neg, scaled, share-times}
 use Rattle.bl_frac.proofs.Signed.{narrow_from_test, wide_from_test, wide_test}
 use Rattle.bl_frac.proofs.Ratios.{product_positive}
-use Rattle.bl_frac.proofs.LowestTerms.{nonzero_size, IsReduced-reciprocal, IsReduced-lowest, IsReduced-product, sum_bottom_positive}
-use Rattle.bl_frac.proofs.Terms.{sum_of-some, sum_of-none, sum_of-wide_left, sum_of-wide_right, sum_of-wide_top, sum_of-wide_bottom, product_of-some, product_of-none, product_of-wide_top, product_of-wide_bottom}
+use Rattle.bl_frac.proofs.LowestTerms.{nonzero_size, IsReduced-reciprocal, IsReduced-lowest, IsReduced-product}
+use Rattle.bl_frac.proofs.LowestTerms.{sum_bottom_positive}
+use Rattle.bl_frac.proofs.Terms.{sum_of-some, sum_of-none, sum_of-wide_left, sum_of-wide_right, sum_of-wide_top}
+use Rattle.bl_frac.proofs.Terms.{sum_of-wide_bottom, product_of-some, product_of-none, product_of-wide_top}
+use Rattle.bl_frac.proofs.Terms.{product_of-wide_bottom}
 
 lowest_num : (z : ℤ) (n : ℕ) → (lowest z n).num *ℤ pos (gcd (unsigned_abs z) n) ≡ z
 unfolding lowest

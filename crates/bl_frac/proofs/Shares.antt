@@ -1,12 +1,15 @@
 -- The coprimality that the sum and the product keep.
-use Rattle.std.proofs.Common.{◌≡◌, ℕ, zero, suc, ◌+◌, ◌-◌, ◌*◌, ◌/◌, ◌<◌, ◌⊎◌, inl, inr, ℤ, pos, negsuc, neg_ℤ, ◌+ℤ◌, ◌*ℤ◌, unsigned_abs, int_div, refl, sym, ap, ◌∙◌, subst, arith}
+use Rattle.std.proofs.Common.{◌≡◌, ℕ, zero, suc, ◌+◌, ◌-◌, ◌*◌, ◌/◌, ◌<◌, ◌⊎◌, inl, inr, ℤ, pos, negsuc, neg_ℤ, ◌+ℤ◌}
+use Rattle.std.proofs.Common.{◌*ℤ◌, unsigned_abs, int_div, refl, sym, ap, ◌∙◌, subst, arith}
 use Rattle.std.specs.Int.{◌∣◌}
 use Rattle.std.proofs.lemmas.Int.{unsigned_abs-mul}
 use Rattle.std.proofs.lemmas.Bool.Decides.{nat_tests}
 use Rattle.std.proofs.Math.Nat.{dvd-add, dvd-sub, dvd_trans, dvd-mul_left_of_dvd, dvd_refl, div-mul_cancel}
 use Rattle.std.proofs.Math.IntN.{+ℤ_comm}
 use Rattle.bl_simplex.specs.Gcd.{gcd}
-use Rattle.bl_frac.proofs.GcdLaws.{gcd_dvd_left, gcd_dvd_right, gcd_comm, coprime_from, common_of_coprime, coprime_of_dvd, coprime_swap, coprime-mul, coprime_shares, share_dvd, gcd-mul_coprime}
+use Rattle.bl_frac.proofs.GcdLaws.{gcd_dvd_left, gcd_dvd_right, gcd_comm, coprime_from, common_of_coprime}
+use Rattle.bl_frac.proofs.GcdLaws.{coprime_of_dvd, coprime_swap, coprime-mul, coprime_shares, share_dvd}
+use Rattle.bl_frac.proofs.GcdLaws.{gcd-mul_coprime}
 
 pub magnitude-neg : (n : ℕ) → unsigned_abs (neg_ℤ (pos n)) ≡ n
 magnitude-neg zero = refl

@@ -1,10 +1,12 @@
 -- The numbers on the way to a sum or a product, as the code makes them.
-use Rattle.std.proofs.Common.{◌≡◌, ℕ, ◌*◌, ◌/◌, ◌^◌, ◌<◌, ◌≤◌, ℤ, pos, ◌*ℤ◌, Bool, true, false, cond, ◌&&◌, to_z, of_z, unsigned_abs, refl, sym, ap, ◌∙◌, ◌⊎◌, inl, inr, arith}
+use Rattle.std.proofs.Common.{◌≡◌, ℕ, ◌*◌, ◌/◌, ◌^◌, ◌<◌, ◌≤◌, ℤ, pos, ◌*ℤ◌, Bool, true, false, cond, ◌&&◌, to_z, of_z}
+use Rattle.std.proofs.Common.{unsigned_abs, refl, sym, ap, ◌∙◌, ◌⊎◌, inl, inr, arith}
 use Rattle.std.specs.Prelude.{Option, Some, None, Result, Ok, Err, IsErr}
 use Rattle.std.specs.Option.{ok_or}
 use Rattle.std.specs.Int.{w128}
 use Rattle.bl_frac.specs.declared.fraction.WideFrac.{WideFrac}
-use Rattle.bl_simplex.specs.Fractions.{Fraction, narrow, lowest, sum_left, sum_right, sum_top, sum_bottom, sum_of, product_top, product_bottom, product_of}
+use Rattle.bl_simplex.specs.Fractions.{Fraction, narrow, lowest, sum_left, sum_right, sum_top, sum_bottom, sum_of}
+use Rattle.bl_simplex.specs.Fractions.{product_top, product_bottom, product_of}
 use Rattle.bl_frac.proofs.Signed.{signed_back, signed_of}
 
 -- a numerator times a share

@@ -1,11 +1,13 @@
 -- The arithmetic at 0: what needs no work, and is never wide.
-use Rattle.std.proofs.Common.{◌≡◌, ℕ, suc, ◌*◌, ◌/◌, ◌^◌, ◌<◌, ℤ, pos, negsuc, neg_ℤ, ◌+ℤ◌, ◌*ℤ◌, true, unsigned_abs, int_div, sym, ap, ◌∙◌, subst, arith}
+use Rattle.std.proofs.Common.{◌≡◌, ℕ, suc, ◌*◌, ◌/◌, ◌^◌, ◌<◌, ℤ, pos, negsuc, neg_ℤ, ◌+ℤ◌, ◌*ℤ◌, true, unsigned_abs}
+use Rattle.std.proofs.Common.{int_div, sym, ap, ◌∙◌, subst, arith}
 use Rattle.std.specs.Prelude.{Some}
 use Rattle.std.proofs.Math.Nat.{div_self, div-one, zero-div, mul-one}
 use Rattle.std.proofs.Math.IntN.{zero-*ℤ, *ℤ-zero, +ℤ_idr}
 use Rattle.bl_whole.proofs.Products.{*ℤ_one}
 use Rattle.bl_simplex.specs.Gcd.{gcd}
-use Rattle.bl_simplex.specs.Fractions.{Fraction, IsReduced, narrow, lowest, reciprocal, sum_left, sum_right, sum_top, sum_bottom, difference_of, product_top, product_bottom, product_of, quotient_of}
+use Rattle.bl_simplex.specs.Fractions.{Fraction, IsReduced, narrow, lowest, reciprocal, sum_left, sum_right, sum_top}
+use Rattle.bl_simplex.specs.Fractions.{sum_bottom, difference_of, product_top, product_bottom, product_of, quotient_of}
 use Rattle.bl_frac.proofs.GcdLaws.{gcd_one, gcd_comm, gcd-zero}
 use Rattle.bl_frac.proofs.Signed.{narrow_test}
 use Rattle.bl_frac.proofs.LowestTerms.{IsReduced-reciprocal}

@@ -1,10 +1,12 @@
 -- Trusted: what the arithmetic means over the rational numbers, as equations of whole numbers of any size, and what a
 -- greatest common
 -- divisor and a least common multiple are.
-use Rattle.std.specs.Prelude.{◌≡◌, ◌≢◌, ℕ, ◌*◌, ◌^◌, ◌≤◌, ◌↔◌, ◌⊎◌, Option, Some, None, ℤ, pos, ◌+ℤ◌, ◌-ℤ◌, ◌*ℤ◌, unsigned_abs}
+use Rattle.std.specs.Prelude.{◌≡◌, ◌≢◌, ℕ, ◌*◌, ◌^◌, ◌≤◌, ◌↔◌, ◌⊎◌, Option, Some, None, ℤ, pos, ◌+ℤ◌, ◌-ℤ◌, ◌*ℤ◌}
+use Rattle.std.specs.Prelude.{unsigned_abs}
 use Rattle.std.specs.Int.{◌∣◌}
 use Rattle.bl_simplex.specs.Gcd.{gcd, lcm}
-use Rattle.bl_simplex.specs.Fractions.{Fraction, IsReduced, sum_left, sum_right, sum_top, sum_bottom, product_top, product_bottom, quotient_of}
+use Rattle.bl_simplex.specs.Fractions.{Fraction, IsReduced, sum_left, sum_right, sum_top, sum_bottom, product_top}
+use Rattle.bl_simplex.specs.Fractions.{product_bottom, quotient_of}
 
 -- c is a + b: over the common denominator both sides have one numerator
 abbrev pub IsSum : Fraction → Fraction → Fraction → Type 0

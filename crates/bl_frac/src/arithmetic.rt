@@ -1,7 +1,9 @@
 //! The sum, the difference, the product and the quotient.
-ghost use Rattle.std.specs.Prelude.{◌≡◌, ◌≢◌, ◌/◌, ◌^◌, ◌<◌, pos, ◌+ℤ◌, ◌*ℤ◌, unsigned_abs, int_div, true, false, MatchResult};
+ghost use Rattle.std.specs.Prelude.{◌≡◌, ◌≢◌, ◌/◌, ◌^◌, ◌<◌, pos, ◌+ℤ◌, ◌*ℤ◌, unsigned_abs, int_div, true, false};
+ghost use Rattle.std.specs.Prelude.{MatchResult};
 ghost use Rattle.std.specs.Option.{ok_or};
-ghost use Rattle.bl_simplex.specs.Fractions.{narrow, sum_of, difference_of, product_of, quotient_of, negated, reciprocal};
+ghost use Rattle.bl_simplex.specs.Fractions.{narrow, sum_of, difference_of, product_of, quotient_of, negated};
+ghost use Rattle.bl_simplex.specs.Fractions.{reciprocal};
 
 use crate::divisor::gcd;
 use crate::fraction::{Frac, WideFrac};

@@ -1,7 +1,8 @@
 //! What the arithmetic means over the rational numbers. Each function does nothing: its contract is a law of the
 //! definitions that the contracts of the arithmetic cite.
 ghost use Rattle.bl_simplex.specs.Fractions.{sum_of, difference_of, product_of, quotient_of, negated, reciprocal};
-ghost use Rattle.bl_frac.specs.Laws.{Gives, QuotientGives, FailsWhere, IsSum, IsDifference, IsProduct, IsWideSum, IsWideProduct, DivisorLaw, MultipleLaw};
+ghost use Rattle.bl_frac.specs.Laws.{Gives, QuotientGives, FailsWhere, IsSum, IsDifference, IsProduct, IsWideSum};
+ghost use Rattle.bl_frac.specs.Laws.{IsWideProduct, DivisorLaw, MultipleLaw};
 
 /// The sum is the rational one, and fails exactly where a number on the way is wide.
 pub fn sum_law()

@@ -1,5 +1,7 @@
 -- Columns and distances times a common denominator.
-use Rattle.std.proofs.Common.{◌≡◌, ℕ, Bool, true, false, cond, ◌+◌, ◌*◌, ◌/◌, ◌^◌, ◌<◌, ◌≤◌, ℤ, pos, ◌+ℤ◌, ◌-ℤ◌, ◌*ℤ◌, ◌≤ℤ◌, neg_ℤ, to_z, of_z, unsigned_abs, FitsSigned, List, [], ◌∷◌, ◌++◌, length, refl, sym, ap, ◌∙◌, subst, arith, below_more, length-append}
+use Rattle.std.proofs.Common.{◌≡◌, ℕ, Bool, true, false, cond, ◌+◌, ◌*◌, ◌/◌, ◌^◌, ◌<◌, ◌≤◌, ℤ, pos, ◌+ℤ◌, ◌-ℤ◌, ◌*ℤ◌}
+use Rattle.std.proofs.Common.{◌≤ℤ◌, neg_ℤ, to_z, of_z, unsigned_abs, FitsSigned, List, [], ◌∷◌, ◌++◌, length, refl, sym}
+use Rattle.std.proofs.Common.{ap, ◌∙◌, subst, arith, below_more, length-append}
 use Rattle.std.specs.Int.{◌∣◌, w128}
 use Rattle.std.proofs.Math.Nat.{div-mul_cancel, div-le_self}
 use Rattle.std.proofs.Math.IntN.{*ℤ_comm, pos-*ℤ-pos}

@@ -1,5 +1,6 @@
 -- Numbers that pass their limit.
-use Rattle.std.proofs.Common.{◌≡◌, ◌≢◌, ℕ, zero, suc, ◌+◌, ◌^◌, ◌<◌, ◌≤◌, ◌⊎◌, ◌↔◌, inl, inr, ℤ, pos, ◌≤ℤ◌, ◌<ℤ◌, unsigned_abs, false, List, [], length, refl, sym, ap, ◌∙◌, subst, arith}
+use Rattle.std.proofs.Common.{◌≡◌, ◌≢◌, ℕ, zero, suc, ◌+◌, ◌^◌, ◌<◌, ◌≤◌, ◌⊎◌, ◌↔◌, inl, inr, ℤ, pos, ◌≤ℤ◌, ◌<ℤ◌}
+use Rattle.std.proofs.Common.{unsigned_abs, false, List, [], length, refl, sym, ap, ◌∙◌, subst, arith}
 use Rattle.std.specs.Prelude.{Bool, IsTrue, Option}
 use Rattle.std.proofs.lemmas.Bool.{cases_order}
 use Rattle.std.proofs.lemmas.Int.{ints}
@@ -10,7 +11,8 @@ use Rattle.bl_simplex.specs.Fractions.{Fraction}
 use Rattle.bl_simplex.specs.Rationals.{fraction_at, common_denominator, times_multiple}
 use Rattle.bl_simplex.specs.Dictionaries.{Dictionary, columns, opening}
 use Rattle.bl_simplex.specs.Pivots.{replay}
-use Rattle.bl_simplex.specs.Closing.{Closes, ClosesByRow, ClosesByCost, IsFirstClosingRow, PassLimit, row_multiplier, cost_multiplier, basic_value}
+use Rattle.bl_simplex.specs.Closing.{Closes, ClosesByRow, ClosesByCost, IsFirstClosingRow, PassLimit, row_multiplier}
+use Rattle.bl_simplex.specs.Closing.{cost_multiplier, basic_value}
 use Rattle.bl_simplex.specs.Licences.{AreSteps, ClosesPastLimit, IsFeasible, IsPointPastLimit, PassesNumbers}
 use Rattle.bl_tableau.specs.Runs.{Run, current}
 use Rattle.bl_licence.specs.Steps.{AreWhole, PassesLimit, IsListOf, Took}

@@ -1,5 +1,7 @@
 -- Common denominators.
-use Rattle.std.proofs.Common.{◌≡◌, ◌≢◌, ℕ, zero, suc, ◌+◌, ◌-◌, ◌*◌, ◌/◌, ◌<◌, ◌≤◌, ◌⊎◌, inl, inr, ℤ, pos, ◌*ℤ◌, List, length, unsigned_abs, refl, sym, ap, ◌∙◌, subst, arith, add-one, ◌^◌, ◌++◌, [], ◌∷◌, to_z, of_z, below_more, length-append}
+use Rattle.std.proofs.Common.{◌≡◌, ◌≢◌, ℕ, zero, suc, ◌+◌, ◌-◌, ◌*◌, ◌/◌, ◌<◌, ◌≤◌, ◌⊎◌, inl, inr, ℤ, pos, ◌*ℤ◌, List}
+use Rattle.std.proofs.Common.{length, unsigned_abs, refl, sym, ap, ◌∙◌, subst, arith, add-one, ◌^◌, ◌++◌, [], ◌∷◌, to_z}
+use Rattle.std.proofs.Common.{of_z, below_more, length-append}
 use Rattle.std.specs.Int.{◌∣◌, w128}
 use Rattle.bl_whole.specs.Sums.{component}
 use Rattle.bl_frac.proofs.Signed.{signed_back}

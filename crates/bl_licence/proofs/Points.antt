@@ -1,5 +1,6 @@
 -- A rational point and the same point times a common denominator.
-use Rattle.std.proofs.Common.{◌≡◌, ◌≢◌, ◌^◌, ◌-ℤ◌, ℕ, zero, suc, ◌+◌, ◌*◌, ◌/◌, ◌<◌, ◌≤◌, ◌↔◌, ℤ, pos, ◌+ℤ◌, ◌*ℤ◌, ◌≤ℤ◌, ◌<ℤ◌, List, length, refl, sym, ap, ◌∙◌, subst, arith}
+use Rattle.std.proofs.Common.{◌≡◌, ◌≢◌, ◌^◌, ◌-ℤ◌, ℕ, zero, suc, ◌+◌, ◌*◌, ◌/◌, ◌<◌, ◌≤◌, ◌↔◌, ℤ, pos, ◌+ℤ◌, ◌*ℤ◌, ◌≤ℤ◌}
+use Rattle.std.proofs.Common.{◌<ℤ◌, List, length, refl, sym, ap, ◌∙◌, subst, arith}
 use Rattle.std.specs.Int.{◌∣◌}
 use Rattle.std.proofs.Math.Nat.{div-mul_cancel}
 use Rattle.std.proofs.Math.IntN.{*ℤ_comm, pos-*ℤ-pos}
@@ -11,7 +12,8 @@ use Rattle.std.specs.Prelude.{Option, Some, None, MatchOption}
 use Rattle.bl_limits.specs.declared.TheConstants.{MAX_PROOF_NUMBER}
 use Rattle.bl_terms.specs.Bounds.{Problem, Fits, linear_at}
 use Rattle.bl_simplex.specs.Fractions.{Fraction, whole_fraction}
-use Rattle.bl_simplex.specs.Rationals.{rational_sum, rational_product, rational_total, IsAtMost, times_multiple, fraction_at, common_denominator}
+use Rattle.bl_simplex.specs.Rationals.{rational_sum, rational_product, rational_total, IsAtMost, times_multiple}
+use Rattle.bl_simplex.specs.Rationals.{fraction_at, common_denominator}
 use Rattle.bl_simplex.specs.Dictionaries.{columns, start_at, sign_at}
 use Rattle.bl_simplex.specs.Licences.{moved, rational_dot, IsBelowCutoff, IsFractional}
 use Rattle.bl_frac.proofs.Ratios.{product_positive}

@@ -1,12 +1,15 @@
 -- Lists of pivots that are taken one after the other.
-use Rattle.std.proofs.Common.{rules, ◌≡◌, ◌≢◌, ℕ, zero, suc, ◌+◌, ◌-◌, ◌<◌, ◌≤◌, ◌⊎◌, inl, inr, cond, true, false, List, [], ◌∷◌, ◌++◌, length, drop, take, get_or, refl, sym, ap, ◌∙◌, subst, arith, length-append, append_assoc, length-drop}
+use Rattle.std.proofs.Common.{rules, ◌≡◌, ◌≢◌, ℕ, zero, suc, ◌+◌, ◌-◌, ◌<◌, ◌≤◌, ◌⊎◌, inl, inr, cond, true, false, List}
+use Rattle.std.proofs.Common.{[], ◌∷◌, ◌++◌, length, drop, take, get_or, refl, sym, ap, ◌∙◌, subst, arith}
+use Rattle.std.proofs.Common.{length-append, append_assoc, length-drop}
 use Rattle.std.specs.Prelude.{Option, None, Some, IsSome, ℤ, ◌==◌}
 use Rattle.std.proofs.Math.Seq.{drop-cons}
 use Rattle.std.proofs.lemmas.Bool.{cases_eq, cases_order}
 use Rattle.bl_terms.specs.Bounds.{Problem}
 use Rattle.bl_simplex.specs.Fractions.{Fraction}
 use Rattle.bl_simplex.specs.Dictionaries.{Dictionary, columns, cost_row, height_of, width_of, opening}
-use Rattle.bl_simplex.specs.Pivots.{pivoted, replay, pivot_place, turn_of, ComesBefore, IsFirstWide, IsNarrowPivot, FailsFirstAt}
+use Rattle.bl_simplex.specs.Pivots.{pivoted, replay, pivot_place, turn_of, ComesBefore, IsFirstWide, IsNarrowPivot}
+use Rattle.bl_simplex.specs.Pivots.{FailsFirstAt}
 use Rattle.bl_simplex.specs.LegalPivots.{IsLegal}
 use Rattle.bl_simplex.specs.Closing.{Closes}
 use Rattle.bl_simplex.specs.Licences.{IsStep, AreSteps, PassesWidth}

@@ -1,5 +1,6 @@
 //! Whether a dictionary closes the box.
-ghost use Rattle.std.specs.Prelude.{◌≡◌, ◌↔◌, ℕ, ◌<◌, pos, ◌-ℤ◌, ◌<ℤ◌, false, IsTrue, IsSome, MatchOption, unsigned_abs, ◌^◌};
+ghost use Rattle.std.specs.Prelude.{◌≡◌, ◌↔◌, ℕ, ◌<◌, pos, ◌-ℤ◌, ◌<ℤ◌, false, IsTrue, IsSome, MatchOption};
+ghost use Rattle.std.specs.Prelude.{unsigned_abs, ◌^◌};
 ghost use Rattle.bl_simplex.specs.Fractions.{whole_fraction};
 ghost use Rattle.bl_simplex.specs.Dictionaries.{columns, cost_row};
 ghost use Rattle.bl_simplex.specs.Closing.{ClosesByRow, ClosesByCost, Closes, IsFirstClosingRow};

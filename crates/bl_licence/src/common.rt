@@ -1,5 +1,6 @@
 //! Common denominators, and the whole numbers that they make of fractions.
-ghost use Rattle.std.specs.Prelude.{◌≡◌, ◌↔◌, IsTrue, ◌*◌, ◌<◌, ◌≤◌, pos, ◌*ℤ◌, ◌≤ℤ◌, length, IfOk, MatchOption, unsigned_abs};
+ghost use Rattle.std.specs.Prelude.{◌≡◌, ◌↔◌, IsTrue, ◌*◌, ◌<◌, ◌≤◌, pos, ◌*ℤ◌, ◌≤ℤ◌, length, IfOk, MatchOption};
+ghost use Rattle.std.specs.Prelude.{unsigned_abs};
 ghost use Rattle.std.specs.Int.{◌∣◌};
 ghost use Rattle.std.specs.Option.{SomeIff};
 ghost use Rattle.bl_simplex.specs.Gcd.{lcm};
@@ -83,7 +84,8 @@ pub fn whole_multiples(
     fractions: &[Frac],
 ) -> Result<Option<(u128, Vec<i64>)>, AllocError>
     requires { AreReduced fractions.now }
-    ensures { IfOk result (λ o. MatchOption o (PassesLimit (length fractions.now) (fraction_at fractions.now)) (λ p. AreWhole fractions.now p.0 p.1.items)) }
+    ensures { IfOk result (λ o. MatchOption o (PassesLimit (length fractions.now) (fraction_at fractions.now))
+        (λ p. AreWhole fractions.now p.0 p.1.items)) }
 {
     let Some(common) = common_denominator(fractions) else {
         return Ok(None);

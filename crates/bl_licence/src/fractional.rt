@@ -1,5 +1,6 @@
 //! The test of a fractional point.
-ghost use Rattle.std.specs.Prelude.{◌≡◌, ◌≢◌, ◌↔◌, ℕ, ◌+◌, ◌*◌, ◌^◌, ◌<◌, ◌≤◌, IsTrue, IfOk, length, pos, negsuc, ◌+ℤ◌, ◌-ℤ◌, ◌*ℤ◌, ◌≤ℤ◌, int_lt, if◌then◌else◌, FitsSigned, MatchOption};
+ghost use Rattle.std.specs.Prelude.{◌≡◌, ◌≢◌, ◌↔◌, ℕ, ◌+◌, ◌*◌, ◌^◌, ◌<◌, ◌≤◌, IsTrue, IfOk, length, pos, negsuc, ◌+ℤ◌};
+ghost use Rattle.std.specs.Prelude.{◌-ℤ◌, ◌*ℤ◌, ◌≤ℤ◌, int_lt, if◌then◌else◌, FitsSigned, MatchOption};
 ghost use Rattle.std.specs.Int.{w64, w128, ◌∣◌};
 ghost use Rattle.bl_limits.specs.declared.TheConstants.{MAX_COLUMNS, MAX_NUMBER, MAX_PROBLEM_COEFFICIENT};
 ghost use Rattle.bl_whole.specs.Sums.{component, dot as dot_of};
@@ -44,7 +45,8 @@ fn are_in_range(problem: &Problem<'_>, distances: &[Frac]) -> bool
     requires problem_fits { Fits problem.now }
     requires size { length distances.now ≡ columns problem.now }
     ensures value { IsTrue result ↔ ((j : ℕ) → j < columns problem.now
-        → IsBetween (component problem.now.area.hi j -ℤ component problem.now.area.lo j) (fraction_at distances.now j)) }
+        → IsBetween (component problem.now.area.hi j -ℤ component problem.now.area.lo j)
+        (fraction_at distances.now j)) }
     ensures reduced { IsTrue result → AreReduced distances.now }
 {
     let lo = problem.lo();
@@ -143,7 +145,8 @@ fn scaled_point(
 /// The sum of the products at each place of `coefs`.
 fn dot(coefs: &[i64], values: &[i128]) -> i128
     requires places { length values.now ≡ length coefs.now }
-    requires products { (k : ℕ) → k < length coefs.now → FitsSigned w128 (component coefs.now k *ℤ component values.now k) }
+    requires products { (k : ℕ) → k < length coefs.now
+        → FitsSigned w128 (component coefs.now k *ℤ component values.now k) }
     requires fits { PartialDotsFit w128 coefs.now values.now }
     ensures { result ≡ dot_of coefs.now values.now }
 {
@@ -194,7 +197,8 @@ fn is_below_cutoff(problem: &Problem<'_>, cutoff: Option<i64>, point: &[i128], c
     requires places { length point.now ≡ columns problem.now }
     requires point { AreWithin scaled_size point.now }
     requires small { common ≤ LIMIT }
-    ensures { IsTrue result ↔ MatchOption cutoff (Unit {0}) (λ u. dot_of problem.now.cost point.now ≤ℤ ((u -ℤ pos 1) *ℤ pos common)) }
+    ensures { IsTrue result
+        ↔ MatchOption cutoff (Unit {0}) (λ u. dot_of problem.now.cost point.now ≤ℤ ((u -ℤ pos 1) *ℤ pos common)) }
 {
     match cutoff {
         Some(cutoff) => is_at_most(problem.cost(), point, i128::from(cutoff) - 1, common),

@@ -5,7 +5,8 @@ ghost use Rattle.bl_simplex.specs.Dictionaries.{columns, cost_row};
 ghost use Rattle.bl_simplex.specs.Pivots.{FailsFirstAt};
 ghost use Rattle.bl_simplex.specs.Closing.{Closes};
 ghost use Rattle.bl_simplex.specs.LegalPivots.{IsLegal};
-ghost use Rattle.bl_simplex.specs.Licences.{IsStep, AreSteps, PassesWidth, PassesPivots, PassesNumbers, ClosesPastLimit, IsPointPastLimit, pivot_limit as pivot_limit_of};
+ghost use Rattle.bl_simplex.specs.Licences.{IsStep, AreSteps, PassesWidth, PassesPivots, PassesNumbers};
+ghost use Rattle.bl_simplex.specs.Licences.{ClosesPastLimit, IsPointPastLimit, pivot_limit as pivot_limit_of};
 ghost use Rattle.bl_tableau.specs.Runs.{current};
 ghost use Rattle.bl_licence.specs.Steps.{MayPivot, Took, EndsInWidth};
 

@@ -1,7 +1,8 @@
 //! What a dictionary says by label: its basic values, and the multipliers of its rows.
 ghost use Rattle.std.specs.Prelude.{◌≡◌, ◌↔◌, ℕ, ◌+◌, ◌<◌, ◌≤◌, ◌^◌, false, IsTrue, IfOk, IfSome, length};
 ghost use Rattle.bl_simplex.specs.Dictionaries.{columns, cost_row};
-ghost use Rattle.bl_simplex.specs.Closing.{labelled, row_multiplier as row_multiplier_of, cost_multiplier as cost_multiplier_of, basic_value as basic_value_of};
+ghost use Rattle.bl_simplex.specs.Closing.{labelled, row_multiplier as row_multiplier_of};
+ghost use Rattle.bl_simplex.specs.Closing.{cost_multiplier as cost_multiplier_of, basic_value as basic_value_of};
 ghost use Rattle.bl_simplex.specs.Licences.{IsFeasible};
 ghost use Rattle.bl_tableau.specs.Runs.{current};
 ghost use Rattle.bl_licence.specs.Steps.{IsListOf};
@@ -74,7 +75,8 @@ pub fn row_multipliers(
 ) -> Result<Vec<Frac>, AllocError>
     requires not_spent { tableau.now.spent ≡ false }
     requires row_in { row < cost_row tableau.now.problem }
-    ensures { IfOk result (λ v. IsListOf (length tableau.now.problem.rows) (row_multiplier_of tableau.now.problem (current tableau.now) row) v.items) }
+    ensures { IfOk result (λ v. IsListOf (length tableau.now.problem.rows)
+        (row_multiplier_of tableau.now.problem (current tableau.now) row) v.items) }
 {
     let rows = problem_rows(tableau);
     let mut multipliers = Vec::with_capacity(alloc, rows as usize)?;
@@ -101,7 +103,8 @@ fn cost_multiplier(tableau: &Tableau<'_, '_>, i: u32) -> Frac
 /// The multipliers that the cost row gives.
 pub fn cost_multipliers(alloc: Global, tableau: &Tableau<'_, '_>) -> Result<Vec<Frac>, AllocError>
     requires { tableau.now.spent ≡ false }
-    ensures { IfOk result (λ v. IsListOf (length tableau.now.problem.rows) (cost_multiplier_of tableau.now.problem (current tableau.now)) v.items) }
+    ensures { IfOk result (λ v. IsListOf (length tableau.now.problem.rows)
+        (cost_multiplier_of tableau.now.problem (current tableau.now)) v.items) }
 {
     let rows = problem_rows(tableau);
     let mut multipliers = Vec::with_capacity(alloc, rows as usize)?;
@@ -126,7 +129,8 @@ fn basic_value(tableau: &Tableau<'_, '_>, label: u32) -> Frac
 /// The basic value of each column.
 pub fn basic_values(alloc: Global, tableau: &Tableau<'_, '_>) -> Result<Vec<Frac>, AllocError>
     requires { tableau.now.spent ≡ false }
-    ensures { IfOk result (λ v. IsListOf (columns tableau.now.problem) (basic_value_of tableau.now.problem (current tableau.now)) v.items) }
+    ensures { IfOk result (λ v. IsListOf (columns tableau.now.problem)
+        (basic_value_of tableau.now.problem (current tableau.now)) v.items) }
 {
     let columns = tableau.columns();
     let mut values = Vec::with_capacity(alloc, columns as usize)?;

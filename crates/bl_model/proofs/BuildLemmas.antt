@@ -1,5 +1,6 @@
 -- What the parts of a program are made of.
-use Rattle.std.proofs.Common.{◌≡◌, ℕ, ◌+◌, ◌<◌, Bool, true, false, cond, List, [], ◌∷◌, ◌++◌, append_assoc, ◌∙◌, map, get_or, refl, arith, ap}
+use Rattle.std.proofs.Common.{◌≡◌, ℕ, ◌+◌, ◌<◌, Bool, true, false, cond, List, [], ◌∷◌, ◌++◌, append_assoc, ◌∙◌, map}
+use Rattle.std.proofs.Common.{get_or, refl, arith, ap}
 use Rattle.std.specs.Prelude.{ℤ, pos, All, ◌==◌}
 use Rattle.std.specs.List.{range_with_len, AllByRecursion}
 use Rattle.std.proofs.lemmas.List.Elements.{recursion_from_All, All-head, All-tail, All-cons, All-nil}

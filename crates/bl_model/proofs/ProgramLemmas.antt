@@ -1,5 +1,6 @@
 -- The program of two sound texts is sound, and keeps the limits.
-use Rattle.std.proofs.Common.{◌≡◌, ℕ, zero, suc, ◌+◌, ◌*◌, ◌<◌, ◌≤◌, Bool, true, false, cond, ◌||◌, List, [], ◌∷◌, length, map, ◌∙◌, sym, refl, ap, ⊎_elim, inl, inr, arith}
+use Rattle.std.proofs.Common.{◌≡◌, ℕ, zero, suc, ◌+◌, ◌*◌, ◌<◌, ◌≤◌, Bool, true, false, cond, ◌||◌, List, [], ◌∷◌}
+use Rattle.std.proofs.Common.{length, map, ◌∙◌, sym, refl, ap, ⊎_elim, inl, inr, arith}
 use Rattle.std.specs.Prelude.{ℤ, pos, neg_ℤ, ◌*ℤ◌, ◌≤ℤ◌, ◌==◌, All, Contains, unsigned_abs, Option, None, Some, IfSome}
 use Rattle.std.specs.List.{range_with_len, AllByRecursion, zip}
 use Rattle.std.proofs.lemmas.Int.{unsigned_abs-mul}
@@ -14,13 +15,15 @@ use Rattle.bl_limits.specs.declared.TheConstants.{MAX_NUMBER, MAX_RHS}
 use Rattle.bl_terms.specs.Points.{is_among}
 use Rattle.bl_terms.specs.Programs.{Row, no_row, columns, is_linking, IsProgram, KeepsLimits}
 use Rattle.bl_terms.proofs.TestLemmas.{Decides-among}
-use Rattle.bl_terms.proofs.ProgramLemmas.{places_where-rising, passes_from_Contains, Contains_from_passes, is_linking_decides}
+use Rattle.bl_terms.proofs.ProgramLemmas.{places_where-rising, passes_from_Contains, Contains_from_passes}
+use Rattle.bl_terms.proofs.ProgramLemmas.{is_linking_decides}
 use Rattle.bl_raw.specs.declared.raw.RawRow.{RawRow}
 use Rattle.bl_raw.specs.declared.raw.RawColumn.{RawColumn}
 use Rattle.bl_raw.specs.declared.raw.RawMps.{RawMps}
 use Rattle.bl_raw.specs.declared.raw.RawAux.{RawAux}
 use Rattle.bl_raw.specs.Raw.{IsSmall, IsSide, IsSense, IsRow, IsColumn, FitsModel, IsRawModel}
-use Rattle.bl_model.specs.Build.{number_for, coefficients, rhs_row, lhs_row, sides, rows_from, follower_numbers, leader_sense_of, program_of}
+use Rattle.bl_model.specs.Build.{number_for, coefficients, rhs_row, lhs_row, sides, rows_from, follower_numbers}
+use Rattle.bl_model.specs.Build.{leader_sense_of, program_of}
 use Rattle.bl_model.proofs.BuildLemmas.{IsSmall-number_for}
 
 -- ---- sizes

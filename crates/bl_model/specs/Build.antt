@@ -1,5 +1,6 @@
 -- Trusted. The program that a model's two texts make together.
-use Rattle.std.specs.Prelude.{ℕ, ◌+◌, Bool, ◌==◌, if◌then◌else◌, List, [], ◌∷◌, ◌++◌, length, map, ℤ, pos, negsuc, neg_ℤ, ◌*ℤ◌, Option, None, Some}
+use Rattle.std.specs.Prelude.{ℕ, ◌+◌, Bool, ◌==◌, if◌then◌else◌, List, [], ◌∷◌, ◌++◌, length, map, ℤ, pos, negsuc}
+use Rattle.std.specs.Prelude.{neg_ℤ, ◌*ℤ◌, Option, None, Some}
 use Rattle.std.specs.List.{zip, range_with_len}
 use Rattle.bl_terms.specs.Points.{is_among}
 use Rattle.bl_terms.specs.Programs.{Row, Program, is_linking, places_where}

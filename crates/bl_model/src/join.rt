@@ -1,13 +1,15 @@
 //! The program that is made of the two texts.
 
-ghost use Rattle.std.specs.Prelude.{◌≡◌, ◌++◌, ◌<◌, ◌^◌, not, ◌&&◌, neg_ℤ, pos, ◌*ℤ◌, length, map, All, IfOk, IfSome, OnOk};
+ghost use Rattle.std.specs.Prelude.{◌≡◌, ◌++◌, ◌<◌, ◌^◌, not, ◌&&◌, neg_ℤ, pos, ◌*ℤ◌, length, map, All, IfOk, IfSome};
+ghost use Rattle.std.specs.Prelude.{OnOk};
 ghost use Rattle.bl_whole.specs.Sums.{component};
 ghost use Rattle.std.specs.List.{range_with_len};
 ghost use Rattle.std.specs.Ordering.{int_eq};
 ghost use Rattle.bl_raw.specs.Raw.{IsRawModel, FitsModel, IsSmall, IsSide, IsSense, IsRow, IsColumn};
 ghost use Rattle.bl_terms.specs.Points.{is_among};
 ghost use Rattle.bl_terms.specs.Programs.{is_in_lower, is_linking, places_where};
-ghost use Rattle.bl_model.specs.Build.{dense_column, rhs_row, lhs_row, rows_from, follower_numbers, leader_sense_of, number_for, program_of};
+ghost use Rattle.bl_model.specs.Build.{dense_column, rhs_row, lhs_row, rows_from, follower_numbers, leader_sense_of};
+ghost use Rattle.bl_model.specs.Build.{number_for, program_of};
 
 use crate::bilevel::Bilevel;
 use crate::places::{marked, marks, numbers};
@@ -105,7 +107,8 @@ fn push_sides(
 ) -> Result<(), AllocError>
     requires coef { All IsSmall coef.now }
     requires row { IsRow row.now }
-    ensures { OnOk result (rows.new.items ≡ rows.old.items ++ (rhs_row coef.now lower row.now.hi ++ lhs_row coef.now lower row.now.lo)) }
+    ensures { OnOk result (rows.new.items
+        ≡ rows.old.items ++ (rhs_row coef.now lower row.now.hi ++ lhs_row coef.now lower row.now.lo)) }
 {
     push_rhs_row(alloc, rows, coef, lower, row.hi)?;
     push_lhs_row(alloc, rows, coef, lower, row.lo)
@@ -224,7 +227,8 @@ fn follower_costs(alloc: Global, column_count: usize, aux: &RawAux) -> Result<Ve
     requires count { length aux.now.costs ≡ length aux.now.columns }
     requires costs { All IsSmall aux.now.costs }
     requires sense { IsSense aux.now.sense }
-    ensures { IfOk result (λ costs. costs.items ≡ map (number_for (follower_numbers aux.now)) (range_with_len 0 column_count)) }
+    ensures { IfOk result
+        (λ costs. costs.items ≡ map (number_for (follower_numbers aux.now)) (range_with_len 0 column_count)) }
 {
     let pairs = follower_pairs(alloc, aux)?;
     numbers(alloc, column_count, &pairs)
@@ -271,8 +275,8 @@ fn costs(alloc: Global, columns: &[RawColumn], maximise: bool) -> Result<Vec<i64
 
 /// Makes the program that the two texts describe: for each row of the MPS text in order its
 /// right-hand side as `coef·z <= hi` and then its left-hand side as `-coef·z <= -lo`, the
-/// costs of the leader and of the follower, each negated where it maximises, and the linking columns, which are those of the
-/// leader that stand in a row of the follower.
+/// costs of the leader and of the follower, each negated where it maximises, and the linking
+/// columns, which are those of the leader that stand in a row of the follower.
 pub fn build(alloc: Global, mps: &RawMps, aux: &RawAux) -> Result<Bilevel, AllocError>
     requires mps { IsRawModel mps.now }
     requires aux { FitsModel (length mps.now.columns) (length mps.now.rows) aux.now }

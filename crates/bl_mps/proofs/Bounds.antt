@@ -1,5 +1,6 @@
 -- The bounds that are read are those of the lines under BOUNDS.
-use Rattle.std.proofs.Common.{◌≡◌, ◌≢◌, ℕ, Bool, true, false, cond, ◌||◌, List, [], ◌∷◌, ◌++◌, get_or, set, map, position, Option, Some, None, Result, Ok, Err, ℤ, pos, refl, sym, ap, subst, ◌∙◌}
+use Rattle.std.proofs.Common.{◌≡◌, ◌≢◌, ℕ, Bool, true, false, cond, ◌||◌, List, [], ◌∷◌, ◌++◌, get_or, set, map}
+use Rattle.std.proofs.Common.{position, Option, Some, None, Result, Ok, Err, ℤ, pos, refl, sym, ap, subst, ◌∙◌}
 use Rattle.std.specs.Prelude.{unwrap_or}
 use Rattle.std.specs.Option.{ok_or}
 use Rattle.std.specs.Result.{result_unwrap_or}
@@ -13,12 +14,14 @@ use Rattle.bl_mps_terms.specs.declared.fault.MpsRule.TheVariants as rules
 use Rattle.bl_mps_terms.specs.declared.words.BoundKind.{BoundKind}
 use Rattle.bl_mps_terms.specs.Words.{Bytes}
 use Rattle.bl_mps_terms.specs.Rules.{first_of, unless, is_named, fault_in}
-use Rattle.bl_mps_terms.specs.Lines.{BoundLine, bound_line, bound_read, parts_fault, bounds_on, number_given, makes_integer, sets_lower, lower_set, upper_set, last_set, lower_of}
+use Rattle.bl_mps_terms.specs.Lines.{BoundLine, bound_line, bound_read, parts_fault, bounds_on, number_given}
+use Rattle.bl_mps_terms.specs.Lines.{makes_integer, sets_lower, lower_set, upper_set, last_set, lower_of}
 use Rattle.bl_mps_read.specs.declared.bounds.Bounds.{Bounds}
 use Rattle.bl_mps_read.specs.Bounds.{no_bounds, with_bound, bound_added}
 use Rattle.bl_mps_read.specs.Stops.{◌>>=◌}
 use Rattle.bl_mps.proofs.Agrees.{Read, Agrees, agrees_ok, agrees_then, agrees_fault}
-use Rattle.bl_mps.proofs.Names.{AreDistinct, StandsAt, stands_at, same_true, differ_false, named-position, table_at, table_set}
+use Rattle.bl_mps.proofs.Names.{AreDistinct, StandsAt, stands_at, same_true, differ_false, named-position, table_at}
+use Rattle.bl_mps.proofs.Names.{table_set}
 
 -- ---- what some lines make of a column
 

@@ -1,5 +1,7 @@
 -- The names of columns in order of first appearance, and the lines of a column.
-use Rattle.std.proofs.Common.{◌≡◌, ◌≢◌, ℕ, suc, ◌+◌, ◌-◌, ◌<◌, ◌≤◌, Bool, true, false, cond, not, ◌||◌, eqb, ltb, List, [], ◌∷◌, ◌++◌, length, get_or, take, drop, map, filter, fold, position, Option, Some, None, is_some, Result, Ok, Err, refl, sym, ap, subst, ◌∙◌, arith, codes}
+use Rattle.std.proofs.Common.{◌≡◌, ◌≢◌, ℕ, suc, ◌+◌, ◌-◌, ◌<◌, ◌≤◌, Bool, true, false, cond, not, ◌||◌, eqb, ltb, List}
+use Rattle.std.proofs.Common.{[], ◌∷◌, ◌++◌, length, get_or, take, drop, map, filter, fold, position, Option, Some}
+use Rattle.std.proofs.Common.{None, is_some, Result, Ok, Err, refl, sym, ap, subst, ◌∙◌, arith, codes}
 use Rattle.std.specs.List.{flat_map}
 use Rattle.std.specs.Str.{bytes_eq}
 use Rattle.std.proofs.lemmas.Bool.{false≢true, eqb-true, eq-eqb}
@@ -10,8 +12,10 @@ use Rattle.std.proofs.lemmas.Grind.{flat_map-append}
 use Rattle.bl_mps_terms.specs.Words.{Bytes}
 use Rattle.bl_mps_terms.specs.Parts.{field}
 use Rattle.bl_mps_terms.specs.Rules.{is_named, pairs_from}
-use Rattle.bl_mps_terms.specs.Lines.{is_marker, begins_integers, appended, column_lines, columns_of, pairs_on, is_marked_from, is_marked}
-use Rattle.bl_mps.proofs.Names.{AreDistinct, StandsAt, same_true, same_from, differ_false, bool_false, or_false, named-append, distinct_push, named_true_from}
+use Rattle.bl_mps_terms.specs.Lines.{is_marker, begins_integers, appended, column_lines, columns_of, pairs_on}
+use Rattle.bl_mps_terms.specs.Lines.{is_marked_from, is_marked}
+use Rattle.bl_mps.proofs.Names.{AreDistinct, StandsAt, same_true, same_from, differ_false, bool_false, or_false}
+use Rattle.bl_mps.proofs.Names.{named-append, distinct_push, named_true_from}
 
 -- ---- names in order of first appearance
 

@@ -1,32 +1,46 @@
 -- The columns that are read are those of the lines under COLUMNS.
-use Rattle.std.proofs.Common.{◌≡◌, ◌≢◌, ℕ, zero, suc, ◌+◌, ◌-◌, ◌<◌, ◌≤◌, Bool, true, false, cond, not, ◌||◌, eqb, ltb, List, [], ◌∷◌, ◌++◌, length, get_or, set, take, drop, map, filter, fold, position, replicate, Option, Some, None, is_some, Result, Ok, Err, ℤ, pos, refl, sym, ap, subst, ◌∙◌, arith, ◌⊎◌, inl, inr, eq-eqb, codes, add-one}
+use Rattle.std.proofs.Common.{◌≡◌, ◌≢◌, ℕ, zero, suc, ◌+◌, ◌-◌, ◌<◌, ◌≤◌, Bool, true, false, cond, not, ◌||◌, eqb, ltb}
+use Rattle.std.proofs.Common.{List, [], ◌∷◌, ◌++◌, length, get_or, set, take, drop, map, filter, fold, position}
+use Rattle.std.proofs.Common.{replicate, Option, Some, None, is_some, Result, Ok, Err, ℤ, pos, refl, sym, ap, subst}
+use Rattle.std.proofs.Common.{◌∙◌, arith, ◌⊎◌, inl, inr, eq-eqb, codes, add-one}
 use Rattle.std.specs.Option.{option_map, option_map_or, ok_or}
 use Rattle.std.specs.List.{flat_map}
 use Rattle.std.specs.Str.{bytes_eq}
 use Rattle.std.proofs.lemmas.Bool.{false≢true, eqb-true, cases_eq, cases_lt}
-use Rattle.std.proofs.lemmas.List.{append-nil, map_push, length-map, length_push, get_or_push, get_or_append_left, get_or-take, length-take, length-set, get_or-set_same, get_or-set_other, get_or_default}
+use Rattle.std.proofs.lemmas.List.{append-nil, map_push, length-map, length_push, get_or_push, get_or_append_left}
+use Rattle.std.proofs.lemmas.List.{get_or-take, length-take, length-set, get_or-set_same, get_or-set_other}
+use Rattle.std.proofs.lemmas.List.{get_or_default}
 use Rattle.bl_limits.specs.declared.TheConstants.{MAX_COLUMNS, MAX_NUMBER}
 use Rattle.bl_mps_terms.specs.declared.fault.MpsRule.{MpsRule}
 use Rattle.bl_mps_terms.specs.declared.fault.MpsRule.TheVariants as rules
 use Rattle.bl_mps_terms.specs.Words.{Bytes}
 use Rattle.bl_mps_terms.specs.Parts.{field}
-use Rattle.bl_mps_terms.specs.Rules.{first_of, when, unless, is_named, number_fault, number, pair_fault, pairs_fault, pairs_from}
-use Rattle.bl_mps_terms.specs.Lines.{row_names, objective_of, bounded_rows, names_in, is_marker, begins_integers, marker_fault, appended, columns_of, pairs_on, name_fault, column_fault, is_marked}
+use Rattle.bl_mps_terms.specs.Rules.{first_of, when, unless, is_named, number_fault, number, pair_fault, pairs_fault}
+use Rattle.bl_mps_terms.specs.Rules.{pairs_from}
+use Rattle.bl_mps_terms.specs.Lines.{row_names, objective_of, bounded_rows, names_in, is_marker, begins_integers}
+use Rattle.bl_mps_terms.specs.Lines.{marker_fault, appended, columns_of, pairs_on, name_fault, column_fault, is_marked}
 use Rattle.bl_mps_terms.specs.Meaning.{number_after, coefficient}
 use Rattle.bl_mps_read.specs.declared.bounds.Bounds.{Bounds}
 use Rattle.bl_mps_read.specs.Bounds.{no_bounds}
-use Rattle.bl_mps_read.specs.Columns.{ColumnList, begun_at, begun, marked, number_set, coefficient_given, marker_word, marker_read, column_added}
+use Rattle.bl_mps_read.specs.Columns.{ColumnList, begun_at, begun, marked, number_set, coefficient_given, marker_word}
+use Rattle.bl_mps_read.specs.Columns.{marker_read, column_added}
 use Rattle.bl_mps_read.specs.Fields.{EntryFields, pair_in, entry_in}
 use Rattle.bl_mps_read.specs.Numbers.{pair_read}
 use Rattle.bl_mps_read.specs.Rows.{RowList}
 use Rattle.bl_mps_read.specs.Stops.{◌>>=◌, taken_up}
-use Rattle.bl_mps.proofs.Agrees.{Read, Agrees, agrees_ok, agrees_then, agrees_then_two, agrees_last, agrees_more, agrees_map, agrees_cond}
-use Rattle.bl_mps.proofs.Names.{AreDistinct, StandsAt, stands_at, same_true, same_from, differ_false, bool_false, named-append, named-position, named_false_from, named_false_at, named_true_from, distinct_push, distinct_places, fresh_distinct, table_at, table_same, table_set, table_push}
+use Rattle.bl_mps.proofs.Agrees.{Read, Agrees, agrees_ok, agrees_then, agrees_then_two, agrees_last, agrees_more}
+use Rattle.bl_mps.proofs.Agrees.{agrees_map, agrees_cond}
+use Rattle.bl_mps.proofs.Names.{AreDistinct, StandsAt, stands_at, same_true, same_from, differ_false, bool_false}
+use Rattle.bl_mps.proofs.Names.{named-append, named-position, named_false_from, named_false_at, named_true_from}
+use Rattle.bl_mps.proofs.Names.{distinct_push, distinct_places, fresh_distinct, table_at, table_same, table_set}
+use Rattle.bl_mps.proofs.Names.{table_push}
 use Rattle.bl_mps.proofs.Pairs.{pairs_agree, IsPairRead, pair_agrees}
 use Rattle.bl_mps.proofs.Rows.{RowsHold, IsBounded, slot_of, zip_length}
 use Rattle.bl_mps.proofs.Slots.{numbers_for, put_slot, put_number}
 use Rattle.bl_mps.proofs.Bounds.{bounds_for, bounds_of}
-use Rattle.bl_mps.proofs.ColumnNames.{named_columns, appended_distinct, columns_of-push, column_lines-marker, pairs_of, pairs_on-push, pairs_on-none, inside_after, inside_after-push, marked_kept, marked_new, last_of, named_take}
+use Rattle.bl_mps.proofs.ColumnNames.{named_columns, appended_distinct, columns_of-push, column_lines-marker, pairs_of}
+use Rattle.bl_mps.proofs.ColumnNames.{pairs_on-push, pairs_on-none, inside_after, inside_after-push, marked_kept}
+use Rattle.bl_mps.proofs.ColumnNames.{marked_new, last_of, named_take}
 
 -- ---- what is kept of the lines
 

@@ -1,12 +1,15 @@
 -- The parts of some lines, and of one line more.
-use Rattle.std.proofs.Common.{◌≡◌, Bool, true, false, cond, List, [], ◌∷◌, ◌++◌, Option, Some, None, refl, sym, ap, ◌∙◌, append_assoc, take, drop}
+use Rattle.std.proofs.Common.{◌≡◌, Bool, true, false, cond, List, [], ◌∷◌, ◌++◌, Option, Some, None, refl, sym, ap, ◌∙◌}
+use Rattle.std.proofs.Common.{append_assoc, take, drop}
 use Rattle.std.specs.Option.{option_to_list}
 use Rattle.std.proofs.lemmas.List.{append-nil}
 use Rattle.bl_text.specs.Fields.{fields_of}
 use Rattle.bl_mps_terms.specs.declared.words.Section.{Section}
-use Rattle.bl_mps_terms.specs.declared.words.Section.TheVariants.{Name, ObjSense, Rows, Columns, RightSides, Ranges, Bounds, End}
+use Rattle.bl_mps_terms.specs.declared.words.Section.TheVariants.{Name, ObjSense, Rows, Columns, RightSides, Ranges}
+use Rattle.bl_mps_terms.specs.declared.words.Section.TheVariants.{Bounds, End}
 use Rattle.bl_mps_terms.specs.Words.{Bytes, section_named}
-use Rattle.bl_mps_terms.specs.Parts.{field, is_skipped, begins_section, section_begun, section_behind, section_after, sections_of, is_in, data_at, data_from, under, senses_at, senses_from, senses_of}
+use Rattle.bl_mps_terms.specs.Parts.{field, is_skipped, begins_section, section_begun, section_behind, section_after}
+use Rattle.bl_mps_terms.specs.Parts.{sections_of, is_in, data_at, data_from, under, senses_at, senses_from, senses_of}
 
 pub record LineParts : Type 0 where
   pub present : Option Section

@@ -1,5 +1,7 @@
 -- The lines that are read, one after the other, leave what they say, or the first fault.
-use Rattle.std.proofs.Common.{◌≡◌, ℕ, suc, ◌+◌, ◌<◌, Bool, true, false, cond, not, ◌||◌, ◌&&◌, eqb, List, [], ◌∷◌, ◌++◌, length, take, drop, map, Option, Some, None, is_none, Result, Ok, Err, ℤ, refl, sym, ap, subst, ◌∙◌, append_assoc, arith}
+use Rattle.std.proofs.Common.{◌≡◌, ℕ, suc, ◌+◌, ◌<◌, Bool, true, false, cond, not, ◌||◌, ◌&&◌, eqb, List, [], ◌∷◌, ◌++◌}
+use Rattle.std.proofs.Common.{length, take, drop, map, Option, Some, None, is_none, Result, Ok, Err, ℤ, refl, sym, ap}
+use Rattle.std.proofs.Common.{subst, ◌∙◌, append_assoc, arith}
 use Rattle.std.specs.Option.{option_map, ok_or}
 use Rattle.std.specs.List.{flat_map, take_while, prefix_len}
 use Rattle.std.proofs.lemmas.Bool.{false≢true}
@@ -9,30 +11,39 @@ use Rattle.bl_mps_terms.specs.declared.fault.MpsRule.{MpsRule}
 use Rattle.bl_mps_terms.specs.declared.fault.MpsRule.TheVariants as rules
 use Rattle.bl_mps_terms.specs.declared.fault.MpsFault.{MpsFault}
 use Rattle.bl_mps_terms.specs.declared.words.Section.{Section}
-use Rattle.bl_mps_terms.specs.declared.words.Section.TheVariants.{Name, ObjSense, Rows, Columns, RightSides, Ranges, Bounds, End}
+use Rattle.bl_mps_terms.specs.declared.words.Section.TheVariants.{Name, ObjSense, Rows, Columns, RightSides, Ranges}
+use Rattle.bl_mps_terms.specs.declared.words.Section.TheVariants.{Bounds, End}
 use Rattle.bl_mps_terms.specs.Words.{Bytes, section_named}
-use Rattle.bl_mps_terms.specs.Parts.{field, is_skipped, begins_section, is_heading, section_begun, section_behind, section_after, sections_of, senses_from, data_from, lines_read, is_in, is_end}
+use Rattle.bl_mps_terms.specs.Parts.{field, is_skipped, begins_section, is_heading, section_begun, section_behind}
+use Rattle.bl_mps_terms.specs.Parts.{section_after, sections_of, senses_from, data_from, lines_read, is_in, is_end}
 use Rattle.bl_mps_terms.specs.Rules.{first_of, unless}
-use Rattle.bl_mps_terms.specs.Lines.{row_names, sense_fault, row_fault, columns_of, column_fault, is_marked, right_side_fault, range_fault, bound_fault, parts_fault, bound_line}
+use Rattle.bl_mps_terms.specs.Lines.{row_names, sense_fault, row_fault, columns_of, column_fault, is_marked}
+use Rattle.bl_mps_terms.specs.Lines.{right_side_fault, range_fault, bound_fault, parts_fault, bound_line}
 use Rattle.bl_mps_terms.specs.Meaning.{number_after}
-use Rattle.bl_mps_terms.specs.Faults.{may_begin, has_good_sense, section_fault, heading_fault, data_fault, line_fault, at_line, or_else, lines_fault}
+use Rattle.bl_mps_terms.specs.Faults.{may_begin, has_good_sense, section_fault, heading_fault, data_fault, line_fault}
+use Rattle.bl_mps_terms.specs.Faults.{at_line, or_else, lines_fault}
 use Rattle.bl_mps_read.specs.declared.bounds.Bounds.{Bounds as BoundList}
 use Rattle.bl_mps_read.specs.Bounds.{bound_added}
 use Rattle.bl_mps_read.specs.Columns.{ColumnList, column_added}
-use Rattle.bl_mps_read.specs.Reader.{State, no_state, sense_behind, heading_read, sense_read, with_mark, row_read, with_sense, with_columns, with_right_sides, with_ranges, bounds_read, data_in, data_read, line_read, read_behind, text_read}
+use Rattle.bl_mps_read.specs.Reader.{State, no_state, sense_behind, heading_read, sense_read, with_mark, row_read}
+use Rattle.bl_mps_read.specs.Reader.{with_sense, with_columns, with_right_sides, with_ranges, bounds_read, data_in}
+use Rattle.bl_mps_read.specs.Reader.{data_read, line_read, read_behind, text_read}
 use Rattle.bl_mps_read.specs.Rows.{RowList, row_added}
 use Rattle.bl_mps_read.specs.Sections.{next_may_be, with_section}
 use Rattle.bl_mps_read.specs.Sides.{ranges_added, right_sides_added}
 use Rattle.bl_mps_read.specs.Stops.{◌>>=◌}
-use Rattle.bl_mps.proofs.Agrees.{Read, Agrees, agrees_ok, agrees_then, agrees_last, agrees_map, agrees_more, agrees_cond}
+use Rattle.bl_mps.proofs.Agrees.{Read, Agrees, agrees_ok, agrees_then, agrees_last, agrees_map, agrees_more}
+use Rattle.bl_mps.proofs.Agrees.{agrees_cond}
 use Rattle.bl_mps.proofs.Bounds.{bounds_of, bound_step}
 use Rattle.bl_mps.proofs.ColumnNames.{inside_after}
 use Rattle.bl_mps.proofs.Columns.{ColumnsHold, column_step, columns_wait}
-use Rattle.bl_mps.proofs.LineParts.{LineParts, parts_of, pushed, parts-push, pushed_skipped, heading_added, pushed_heading, data_added, pushed_data}
+use Rattle.bl_mps.proofs.LineParts.{LineParts, parts_of, pushed, parts-push, pushed_skipped, heading_added}
+use Rattle.bl_mps.proofs.LineParts.{pushed_heading, data_added, pushed_data}
 use Rattle.bl_mps.proofs.Pairs.{numbers_of}
 use Rattle.bl_mps.proofs.Rows.{RowsHold, row_step, rows_none}
 use Rattle.bl_mps.proofs.Names.{distinct_nil}
-use Rattle.bl_mps.proofs.Sections.{SectionsHold, sections_none, may_same, section_more, IsOrdered, ordered_none, ordered_more, heading_senses, SenseHolds, sense_none, sense_heading, sense_step}
+use Rattle.bl_mps.proofs.Sections.{SectionsHold, sections_none, may_same, section_more, IsOrdered, ordered_none}
+use Rattle.bl_mps.proofs.Sections.{ordered_more, heading_senses, SenseHolds, sense_none, sense_heading, sense_step}
 use Rattle.bl_mps.proofs.Sides.{all_pairs, range_step, right_side_step}
 
 -- ---- what is kept of the lines so far

@@ -1,11 +1,14 @@
 -- The model that is made of what was read is what the lines say, or it is refused with the fault of the whole.
-use Rattle.std.proofs.Common.{◌≡◌, ℕ, suc, ◌+◌, ◌<◌, ◌≤◌, Bool, true, false, cond, not, ◌||◌, ◌&&◌, List, [], ◌∷◌, ◌++◌, length, get_or, map, filter, Option, Some, None, is_some, is_none, Result, Ok, Err, ℤ, pos, refl, sym, ap, subst, ◌∙◌, arith, add-one, zero-add}
+use Rattle.std.proofs.Common.{◌≡◌, ℕ, suc, ◌+◌, ◌<◌, ◌≤◌, Bool, true, false, cond, not, ◌||◌, ◌&&◌, List, [], ◌∷◌, ◌++◌}
+use Rattle.std.proofs.Common.{length, get_or, map, filter, Option, Some, None, is_some, is_none, Result, Ok, Err, ℤ}
+use Rattle.std.proofs.Common.{pos, refl, sym, ap, subst, ◌∙◌, arith, add-one, zero-add}
 use Rattle.std.specs.Prelude.{unwrap_or, IfSome, nat_lt}
 use Rattle.std.specs.Option.{option_map, option_map_or}
 use Rattle.std.specs.List.{AllZip, flat_map, list_any, range_with_len, enumerate_from}
 use Rattle.std.proofs.lemmas.Bool.{false≢true}
 use Rattle.std.proofs.lemmas.List.{append-nil, get_or-map, get_or_default, length-map, ext_get_or}
-use Rattle.std.proofs.lemmas.List.FromFn.{length-map-range_with_len, get_or-map-range_with_len, length-enumerate_from, get_or-enumerate_from}
+use Rattle.std.proofs.lemmas.List.FromFn.{length-map-range_with_len, get_or-map-range_with_len, length-enumerate_from}
+use Rattle.std.proofs.lemmas.List.FromFn.{get_or-enumerate_from}
 use Rattle.bl_limits.specs.declared.TheConstants.{MAX_TEXT_BYTES}
 use Rattle.bl_raw.specs.declared.raw.RawRow.{RawRow}
 use Rattle.bl_raw.specs.declared.raw.RawColumn.{RawColumn}
@@ -18,13 +21,18 @@ use Rattle.bl_mps_terms.specs.declared.fault.MpsFault.{MpsFault}
 use Rattle.bl_mps_terms.specs.declared.words.RowKind.{RowKind}
 use Rattle.bl_mps_terms.specs.declared.words.RowKind.TheVariants as kinds
 use Rattle.bl_mps_terms.specs.declared.words.Section.{Section}
-use Rattle.bl_mps_terms.specs.declared.words.Section.TheVariants.{Name, ObjSense, Rows, Columns, RightSides, Ranges, Bounds, End}
+use Rattle.bl_mps_terms.specs.declared.words.Section.TheVariants.{Name, ObjSense, Rows, Columns, RightSides, Ranges}
+use Rattle.bl_mps_terms.specs.declared.words.Section.TheVariants.{Bounds, End}
 use Rattle.bl_mps_terms.specs.Words.{Bytes, row_kind, section_named}
-use Rattle.bl_mps_terms.specs.Parts.{field, under, senses_of, lines_read, is_skipped, begins_section, is_heading, section_begun, is_in, is_end}
+use Rattle.bl_mps_terms.specs.Parts.{field, under, senses_of, lines_read, is_skipped, begins_section, is_heading}
+use Rattle.bl_mps_terms.specs.Parts.{section_begun, is_in, is_end}
 use Rattle.bl_mps_terms.specs.Rules.{is_zero, when, unless, first_of}
-use Rattle.bl_mps_terms.specs.Lines.{BoundLine, row_names, objective_of, bounded_rows, columns_of, pairs_on, pairs_of_set, is_marked, bounds_on, lower_of, upper_of, whole_fault, is_above, makes_integer, sets_lower}
+use Rattle.bl_mps_terms.specs.Lines.{BoundLine, row_names, objective_of, bounded_rows, columns_of, pairs_on}
+use Rattle.bl_mps_terms.specs.Lines.{pairs_of_set, is_marked, bounds_on, lower_of, upper_of, whole_fault, is_above}
+use Rattle.bl_mps_terms.specs.Lines.{makes_integer, sets_lower}
 use Rattle.bl_mps_terms.specs.Faults.{or_else, in_column, at_line, lines_fault, columns_fault, model_fault, first_fault}
-use Rattle.bl_mps_terms.specs.Meaning.{is_maximum, number_after, kind_of_row, row_with, row_of, coefficient, nonzero_of, IsColumnOf, Says, Reads}
+use Rattle.bl_mps_terms.specs.Meaning.{is_maximum, number_after, kind_of_row, row_with, row_of, coefficient, nonzero_of}
+use Rattle.bl_mps_terms.specs.Meaning.{IsColumnOf, Says, Reads}
 use Rattle.bl_mps_read.specs.declared.rows.BoundedRow.{BoundedRow}
 use Rattle.bl_mps_read.specs.declared.bounds.Bounds.{Bounds as BoundList}
 use Rattle.bl_mps_read.specs.Bounds.{no_bounds}
@@ -32,7 +40,8 @@ use Rattle.bl_mps_read.specs.Columns.{ColumnList}
 use Rattle.bl_mps_read.specs.Reader.{State, no_state, text_read}
 use Rattle.bl_mps_read.specs.Rows.{RowList}
 use Rattle.bl_mps_model.specs.Whole.{upper_in, bounds_fault, bounds_faults}
-use Rattle.bl_mps_model.specs.Model.{raw_row, raw_rows, number_at, entry_at, raw_entries, raw_column, column_at, raw_columns, model_of, model_at, model_read, model_behind, mps_read}
+use Rattle.bl_mps_model.specs.Model.{raw_row, raw_rows, number_at, entry_at, raw_entries, raw_column, column_at}
+use Rattle.bl_mps_model.specs.Model.{raw_columns, model_of, model_at, model_read, model_behind, mps_read}
 use Rattle.bl_mps_model.proofs.Columns.{AreOrdered, faultless_ordered, faultless_at}
 use Rattle.bl_mps.proofs.Bounds.{bounds_for, bounds_of, last_upper}
 use Rattle.bl_mps.proofs.Columns.{ColumnsHold}

@@ -1,5 +1,7 @@
 -- Pairs of a row and a number that are read, one after the other.
-use Rattle.std.proofs.Common.{◌≡◌, ◌≢◌, ℕ, ◌<◌, Bool, true, false, cond, not, ◌||◌, ◌&&◌, leb, List, [], ◌∷◌, ◌++◌, length, get_or, set, map, position, Option, Some, None, is_some, Result, Ok, Err, ℤ, pos, refl, sym, ap, subst, ◌∙◌, append_assoc, arith}
+use Rattle.std.proofs.Common.{◌≡◌, ◌≢◌, ℕ, ◌<◌, Bool, true, false, cond, not, ◌||◌, ◌&&◌, leb, List, [], ◌∷◌, ◌++◌}
+use Rattle.std.proofs.Common.{length, get_or, set, map, position, Option, Some, None, is_some, Result, Ok, Err, ℤ, pos}
+use Rattle.std.proofs.Common.{refl, sym, ap, subst, ◌∙◌, append_assoc, arith}
 use Rattle.std.specs.Prelude.{unsigned_abs}
 use Rattle.std.specs.Option.{ok_or, option_map_or}
 use Rattle.std.specs.Result.{result_unwrap_or}
@@ -11,13 +13,16 @@ use Rattle.bl_num.specs.Numbers.{read_of}
 use Rattle.bl_mps_terms.specs.declared.fault.MpsRule.{MpsRule}
 use Rattle.bl_mps_terms.specs.declared.fault.MpsRule.TheVariants as rules
 use Rattle.bl_mps_terms.specs.Words.{Bytes}
-use Rattle.bl_mps_terms.specs.Rules.{first_of, when, unless, is_named, within, number_within, fault_in, number_fault, number, has_constant, pair_fault, pairs_fault}
+use Rattle.bl_mps_terms.specs.Rules.{first_of, when, unless, is_named, within, number_within, fault_in, number_fault}
+use Rattle.bl_mps_terms.specs.Rules.{number, has_constant, pair_fault, pairs_fault}
 use Rattle.bl_mps_terms.specs.Lines.{names_in}
 use Rattle.bl_mps_terms.specs.Meaning.{number_after}
 use Rattle.bl_mps_read.specs.Numbers.{pair_read, entered}
 use Rattle.bl_mps_read.specs.Stops.{◌>>=◌, taken_up}
-use Rattle.bl_mps.proofs.Agrees.{Read, Agrees, agrees_ok, agrees_then, agrees_then_two, agrees_last, agrees_fault, agrees_more}
-use Rattle.bl_mps.proofs.Names.{AreDistinct, StandsAt, stands_at, same_true, differ_false, or_false, named-append, named-position, table_at, table_set}
+use Rattle.bl_mps.proofs.Agrees.{Read, Agrees, agrees_ok, agrees_then, agrees_then_two, agrees_last, agrees_fault}
+use Rattle.bl_mps.proofs.Agrees.{agrees_more}
+use Rattle.bl_mps.proofs.Names.{AreDistinct, StandsAt, stands_at, same_true, differ_false, or_false, named-append}
+use Rattle.bl_mps.proofs.Names.{named-position, table_at, table_set}
 
 -- ---- the pairs one after the other
 

@@ -1,11 +1,14 @@
 -- The rows that are read are those of the lines under ROWS.
-use Rattle.std.proofs.Common.{◌≡◌, ◌≢◌, ℕ, suc, ◌+◌, ◌<◌, ◌≤◌, Bool, true, false, cond, not, ◌||◌, eqb, ltb, List, [], ◌∷◌, ◌++◌, length, get_or, map, filter, position, Option, Some, None, is_some, is_none, Result, Ok, Err, refl, sym, ap, subst, ◌∙◌, arith, codes}
+use Rattle.std.proofs.Common.{◌≡◌, ◌≢◌, ℕ, suc, ◌+◌, ◌<◌, ◌≤◌, Bool, true, false, cond, not, ◌||◌, eqb, ltb, List, []}
+use Rattle.std.proofs.Common.{◌∷◌, ◌++◌, length, get_or, map, filter, position, Option, Some, None, is_some, is_none}
+use Rattle.std.proofs.Common.{Result, Ok, Err, refl, sym, ap, subst, ◌∙◌, arith, codes}
 use Rattle.std.specs.Prelude.{IfSome, nat_lt}
 use Rattle.std.specs.Option.{option_map, option_map_or, ok_or}
 use Rattle.std.specs.List.{AllZip}
 use Rattle.std.specs.Str.{bytes_eq}
 use Rattle.std.proofs.lemmas.Bool.{false≢true, eqb-true}
-use Rattle.std.proofs.lemmas.List.{append-nil, length-map, map_push, length-append, get_or_append_left, get_or_push, length_push}
+use Rattle.std.proofs.lemmas.List.{append-nil, length-map, map_push, length-append, get_or_append_left, get_or_push}
+use Rattle.std.proofs.lemmas.List.{length_push}
 use Rattle.std.proofs.lemmas.List.Elements.{filter-append}
 use Rattle.bl_limits.specs.declared.TheConstants.{MAX_TEXT_ROWS}
 use Rattle.bl_mps_terms.specs.declared.fault.MpsRule.{MpsRule}
@@ -20,7 +23,8 @@ use Rattle.bl_mps_read.specs.Fields.{pair_in}
 use Rattle.bl_mps_read.specs.Rows.{RowList, next_slot, row_pushed, fresh_row, row_added}
 use Rattle.bl_mps_read.specs.Stops.{◌>>=◌}
 use Rattle.bl_mps.proofs.Agrees.{Read, Agrees, agrees_ok, agrees_then, agrees_then_two, agrees_last, agrees_unless}
-use Rattle.bl_mps.proofs.Names.{AreDistinct, same_true, same_from, differ_false, differ_from, bool_false, or_false, named_false_at, named-append, named-position, distinct_push, distinct_nil, table_push}
+use Rattle.bl_mps.proofs.Names.{AreDistinct, same_true, same_from, differ_false, differ_from, bool_false, or_false}
+use Rattle.bl_mps.proofs.Names.{named_false_at, named-append, named-position, distinct_push, distinct_nil, table_push}
 
 -- ---- where a name stands, and the slot of a row
 

@@ -1,5 +1,7 @@
 -- The sections that have begun, and the leader's sense.
-use Rattle.std.proofs.Common.{◌≡◌, ℕ, suc, ◌+◌, ◌<◌, ◌≤◌, Bool, true, false, cond, not, ◌||◌, ◌&&◌, eqb, ltb, List, [], ◌∷◌, ◌++◌, length, take, drop, Option, Some, None, is_some, is_none, Result, Ok, Err, refl, sym, ap, subst, ◌∙◌, arith}
+use Rattle.std.proofs.Common.{◌≡◌, ℕ, suc, ◌+◌, ◌<◌, ◌≤◌, Bool, true, false, cond, not, ◌||◌, ◌&&◌, eqb, ltb, List, []}
+use Rattle.std.proofs.Common.{◌∷◌, ◌++◌, length, take, drop, Option, Some, None, is_some, is_none, Result, Ok, Err}
+use Rattle.std.proofs.Common.{refl, sym, ap, subst, ◌∙◌, arith}
 use Rattle.std.specs.Prelude.{unwrap_or}
 use Rattle.std.specs.Option.{ok_or}
 use Rattle.std.specs.List.{list_any}
@@ -9,7 +11,8 @@ use Rattle.std.proofs.lemmas.List.Folds.{list_any-append}
 use Rattle.bl_mps_terms.specs.declared.fault.MpsRule.{MpsRule}
 use Rattle.bl_mps_terms.specs.declared.fault.MpsRule.TheVariants as rules
 use Rattle.bl_mps_terms.specs.declared.words.Section.{Section}
-use Rattle.bl_mps_terms.specs.declared.words.Section.TheVariants.{Name, ObjSense, Rows, Columns, RightSides, Ranges, Bounds, End}
+use Rattle.bl_mps_terms.specs.declared.words.Section.TheVariants.{Name, ObjSense, Rows, Columns, RightSides, Ranges}
+use Rattle.bl_mps_terms.specs.declared.words.Section.TheVariants.{Bounds, End}
 use Rattle.bl_mps_terms.specs.Words.{Bytes, maximises}
 use Rattle.bl_mps_terms.specs.Parts.{field, is_same, is_in, has}
 use Rattle.bl_mps_terms.specs.Rules.{first_of, unless}

@@ -1,5 +1,7 @@
 -- The right-hand sides and ranges that are read are those of the lines under RHS and RANGES.
-use Rattle.std.proofs.Common.{◌≡◌, ◌≢◌, ℕ, suc, ◌<◌, Bool, true, false, cond, not, ◌||◌, ◌&&◌, eqb, List, [], ◌∷◌, ◌++◌, length, get_or, map, Option, Some, None, is_some, Result, Ok, Err, ℤ, refl, sym, ap, subst, ◌∙◌, arith, ◌⊎◌, inl, inr, eq-eqb}
+use Rattle.std.proofs.Common.{◌≡◌, ◌≢◌, ℕ, suc, ◌<◌, Bool, true, false, cond, not, ◌||◌, ◌&&◌, eqb, List, [], ◌∷◌, ◌++◌}
+use Rattle.std.proofs.Common.{length, get_or, map, Option, Some, None, is_some, Result, Ok, Err, ℤ, refl, sym, ap}
+use Rattle.std.proofs.Common.{subst, ◌∙◌, arith, ◌⊎◌, inl, inr, eq-eqb}
 use Rattle.std.specs.Prelude.{IfSome}
 use Rattle.std.specs.Option.{option_map, option_map_or, ok_or}
 use Rattle.std.specs.List.{flat_map}
@@ -11,8 +13,10 @@ use Rattle.bl_limits.specs.declared.TheConstants.{MAX_TEXT_RHS}
 use Rattle.bl_mps_terms.specs.declared.fault.MpsRule.{MpsRule}
 use Rattle.bl_mps_terms.specs.declared.fault.MpsRule.TheVariants as rules
 use Rattle.bl_mps_terms.specs.Words.{Bytes}
-use Rattle.bl_mps_terms.specs.Rules.{first_of, when, unless, is_named, number_fault, number, is_zero, has_constant, pair_fault, pairs_fault}
-use Rattle.bl_mps_terms.specs.Lines.{row_names, objective_of, names_in, is_even, pairs_of_set, set_fault, right_side_fault, range_fault}
+use Rattle.bl_mps_terms.specs.Rules.{first_of, when, unless, is_named, number_fault, number, is_zero, has_constant}
+use Rattle.bl_mps_terms.specs.Rules.{pair_fault, pairs_fault}
+use Rattle.bl_mps_terms.specs.Lines.{row_names, objective_of, names_in, is_even, pairs_of_set, set_fault}
+use Rattle.bl_mps_terms.specs.Lines.{right_side_fault, range_fault}
 use Rattle.bl_mps_read.specs.Fields.{set_pairs_in}
 use Rattle.bl_mps_read.specs.Numbers.{pair_read, entered}
 use Rattle.bl_mps_read.specs.Rows.{RowList}

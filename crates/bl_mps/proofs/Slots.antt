@@ -1,5 +1,7 @@
 -- The numbers of a column by the slots of the rows.
-use Rattle.std.proofs.Common.{◌≡◌, ◌≢◌, ℕ, zero, suc, ◌+◌, ◌<◌, Bool, true, false, cond, not, ◌||◌, List, [], ◌∷◌, ◌++◌, length, get_or, set, map, Option, Some, None, ℤ, pos, refl, sym, ap, ◌∙◌, arith, add-one, ◌⊎◌, inl, inr}
+use Rattle.std.proofs.Common.{◌≡◌, ◌≢◌, ℕ, zero, suc, ◌+◌, ◌<◌, Bool, true, false, cond, not, ◌||◌, List, [], ◌∷◌, ◌++◌}
+use Rattle.std.proofs.Common.{length, get_or, set, map, Option, Some, None, ℤ, pos, refl, sym, ap, ◌∙◌, arith, add-one}
+use Rattle.std.proofs.Common.{◌⊎◌, inl, inr}
 use Rattle.std.specs.Prelude.{unwrap_or}
 use Rattle.std.specs.Option.{option_map, option_map_or}
 use Rattle.std.specs.Str.{bytes_eq}
@@ -9,7 +11,8 @@ use Rattle.bl_mps_terms.specs.Parts.{field}
 use Rattle.bl_mps_terms.specs.Rules.{is_named, number}
 use Rattle.bl_mps_terms.specs.Lines.{is_free_row, row_names, objective_of, bounded_rows, names_in}
 use Rattle.bl_mps_terms.specs.Meaning.{number_after, coefficient}
-use Rattle.bl_mps.proofs.Names.{same_from, same_true, differ_false, differ_from, or_false, named_false_at, IsFresh, table_same}
+use Rattle.bl_mps.proofs.Names.{same_from, same_true, differ_false, differ_from, or_false, named_false_at, IsFresh}
+use Rattle.bl_mps.proofs.Names.{table_same}
 use Rattle.bl_mps.proofs.Pairs.{number_fresh, number_other}
 use Rattle.bl_mps.proofs.Rows.{place_in, slot_in, slot_of, unnamed_bounded}
 

@@ -1,5 +1,6 @@
 -- Columns without a fault have bounds.
-use Rattle.std.proofs.Common.{◌≡◌, ℕ, ◌<◌, Bool, true, false, cond, List, [], ◌∷◌, length, get_or, zero, suc, ◌+◌, Option, Some, None, ℤ, pos, refl, arith, not, ◌&&◌}
+use Rattle.std.proofs.Common.{◌≡◌, ℕ, ◌<◌, Bool, true, false, cond, List, [], ◌∷◌, length, get_or, zero, suc, ◌+◌}
+use Rattle.std.proofs.Common.{Option, Some, None, ℤ, pos, refl, arith, not, ◌&&◌}
 use Rattle.std.specs.Prelude.{unwrap_or, is_some, int_lt, ◌≤ℤ◌}
 use Rattle.std.specs.Option.{option_map}
 use Rattle.std.proofs.lemmas.Int.{by_lt_z, ints}

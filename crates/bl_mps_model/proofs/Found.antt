@@ -1,5 +1,6 @@
 -- The model that was found.
-use Rattle.std.proofs.Common.{◌≡◌, ℕ, ◌<◌, sym, ap, ◌∙◌, Bool, false, List, [], length, get_or, Some, None, Ok, Result, ℤ, refl}
+use Rattle.std.proofs.Common.{◌≡◌, ℕ, ◌<◌, sym, ap, ◌∙◌, Bool, false, List, [], length, get_or, Some, None, Ok, Result}
+use Rattle.std.proofs.Common.{ℤ, refl}
 use Rattle.std.specs.Prelude.{unwrap_or, slice_get, nat_lt}
 use Rattle.std.proofs.lemmas.List.{get_or_default}
 use Rattle.std.proofs.lemmas.Option.{get_or_from_slice_get}

@@ -1,5 +1,6 @@
 -- The model of the lines that were read.
-use Rattle.std.specs.Prelude.{◌<◌, ℕ, ◌+◌, false, not, List, [], Option, Some, None, Result, Ok, Err, ℤ, pos, All, length, map, filter, unwrap_or, slice_index_or, nat_lt, if◌then◌else◌}
+use Rattle.std.specs.Prelude.{◌<◌, ℕ, ◌+◌, false, not, List, [], Option, Some, None, Result, Ok, Err, ℤ, pos, All}
+use Rattle.std.specs.Prelude.{length, map, filter, unwrap_or, slice_index_or, nat_lt, if◌then◌else◌}
 use Rattle.std.specs.List.{range_with_len}
 use Rattle.std.specs.List.Sorted.{IsStrictlyIncreasing}
 use Rattle.bl_limits.specs.declared.TheConstants.{MAX_TEXT_BYTES}

@@ -1,5 +1,6 @@
 //! The model of what was read.
-ghost use Rattle.std.specs.Prelude.{◌≡◌, ◌<◌, ◌≤◌, ◌≤ℤ◌, pos, ℕ, All, IfOk, None, length, false, slice_index_or, unsigned_abs};
+ghost use Rattle.std.specs.Prelude.{◌≡◌, ◌<◌, ◌≤◌, ◌≤ℤ◌, pos, ℕ, All, IfOk, None, length, false, slice_index_or};
+ghost use Rattle.std.specs.Prelude.{unsigned_abs};
 ghost use Rattle.bl_limits.specs.declared.TheConstants.{MAX_TEXT_ROWS, MAX_NUMBER};
 ghost use Rattle.bl_raw.specs.Raw.{IsColumn, IsRawModel};
 ghost use Rattle.bl_mps_read.specs.Bounds.{AreSmall, no_bounds};

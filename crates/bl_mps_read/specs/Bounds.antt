@@ -1,5 +1,6 @@
 -- The bounds of the columns, one line after the other.
-use Rattle.std.specs.Prelude.{◌≤◌, IfSome, unsigned_abs, ℤ, pos, Bool, true, false, ◌||◌, List, Option, Some, None, Result, Ok, position, slice_index_or, slice_set, unwrap_or}
+use Rattle.std.specs.Prelude.{◌≤◌, IfSome, unsigned_abs, ℤ, pos, Bool, true, false, ◌||◌, List, Option, Some, None}
+use Rattle.std.specs.Prelude.{Result, Ok, position, slice_index_or, slice_set, unwrap_or}
 use Rattle.std.specs.Option.{ok_or}
 use Rattle.std.specs.Str.{bytes_eq}
 use Rattle.bl_limits.specs.declared.TheConstants.{MAX_NUMBER}

@@ -1,5 +1,6 @@
 -- Numbers beside the names of rows.
-use Rattle.std.specs.Prelude.{◌≤◌, All, IfSome, unsigned_abs, ℕ, ℤ, List, Option, Some, None, Result, Ok, Err, is_some, slice_index_or, slice_set, position, if◌then◌else◌}
+use Rattle.std.specs.Prelude.{◌≤◌, All, IfSome, unsigned_abs, ℕ, ℤ, List, Option, Some, None, Result, Ok, Err, is_some}
+use Rattle.std.specs.Prelude.{slice_index_or, slice_set, position, if◌then◌else◌}
 use Rattle.std.specs.Option.{ok_or}
 use Rattle.std.specs.Str.{bytes_eq}
 use Rattle.bl_num.specs.Numbers.{read_of}

@@ -1,5 +1,6 @@
 -- The lines of a text, one after the other.
-use Rattle.std.specs.Prelude.{◌≡◌, ℕ, ◌+◌, ◌++◌, Bool, List, [], ◌∷◌, Option, Some, None, Result, Ok, Err, ℤ, length, is_some, if◌then◌else◌}
+use Rattle.std.specs.Prelude.{◌≡◌, ℕ, ◌+◌, ◌++◌, Bool, List, [], ◌∷◌, Option, Some, None, Result, Ok, Err, ℤ, length}
+use Rattle.std.specs.Prelude.{is_some, if◌then◌else◌}
 use Rattle.std.specs.Option.{ok_or}
 use Rattle.bl_limits.specs.declared.TheConstants.{MAX_TEXT_RHS}
 use Rattle.bl_text.specs.Fields.{fields_of}
@@ -7,7 +8,8 @@ use Rattle.bl_mps_terms.specs.declared.fault.MpsRule.{MpsRule}
 use Rattle.bl_mps_terms.specs.declared.fault.MpsRule.TheVariants as rules
 use Rattle.bl_mps_terms.specs.declared.fault.MpsFault.{MpsFault}
 use Rattle.bl_mps_terms.specs.declared.words.Section.{Section}
-use Rattle.bl_mps_terms.specs.declared.words.Section.TheVariants.{Name, ObjSense, Rows, Columns, RightSides, Ranges, Bounds, End}
+use Rattle.bl_mps_terms.specs.declared.words.Section.TheVariants.{Name, ObjSense, Rows, Columns, RightSides, Ranges}
+use Rattle.bl_mps_terms.specs.declared.words.Section.TheVariants.{Bounds, End}
 use Rattle.bl_mps_terms.specs.Words.{Bytes, section_named, maximises}
 use Rattle.bl_mps_terms.specs.Parts.{is_skipped, begins_section, is_in}
 use Rattle.bl_mps_terms.specs.Faults.{at_line}

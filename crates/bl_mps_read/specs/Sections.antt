@@ -1,7 +1,8 @@
 -- Which sections have begun.
 use Rattle.std.specs.Prelude.{Bool, true, false, not, ◌&&◌, Some, None, is_none}
 use Rattle.bl_mps_terms.specs.declared.words.Section.{Section}
-use Rattle.bl_mps_terms.specs.declared.words.Section.TheVariants.{Name, ObjSense, Rows, Columns, RightSides, Ranges, Bounds, End}
+use Rattle.bl_mps_terms.specs.declared.words.Section.TheVariants.{Name, ObjSense, Rows, Columns, RightSides, Ranges}
+use Rattle.bl_mps_terms.specs.declared.words.Section.TheVariants.{Bounds, End}
 use Rattle.bl_mps_read.specs.declared.sections.Sections.{Sections}
 
 abbrev pub no_sections : Sections

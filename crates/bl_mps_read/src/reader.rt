@@ -2,7 +2,8 @@
 ghost use Rattle.std.specs.Prelude.{◌≡◌, IfOk, OnOk};
 ghost use Rattle.bl_text.specs.Fields.{fields_of};
 ghost use Rattle.bl_text.specs.Lines.{lines_of};
-ghost use Rattle.bl_mps_read.specs.Reader.{no_state, heading_sense, heading_read, sense_read, row_read, data_read, line_read, text_read, IsTidy};
+ghost use Rattle.bl_mps_read.specs.Reader.{no_state, heading_sense, heading_read, sense_read, row_read, data_read};
+ghost use Rattle.bl_mps_read.specs.Reader.{line_read, text_read, IsTidy};
 ghost use Rattle.bl_mps_read.specs.ReaderViews.{reader_view};
 ghost use Rattle.bl_mps_read.specs.Errors.{GivesRead, error_at};
 ghost use Rattle.bl_mps_read.specs.Stops.{Leaves, Makes};

@@ -1,7 +1,8 @@
 -- The first fault of an MPS text: the first line that breaks a rule, given the lines before it, and there the first
 -- rule;
 -- then the faults of the whole. Trusted.
-use Rattle.std.specs.Prelude.{ℕ, ◌+◌, Bool, not, ◌&&◌, ◌||◌, ◌==◌, nat_lt, List, [], ◌∷◌, ◌++◌, Option, Some, None, ℤ, length, is_some, is_none, if◌then◌else◌}
+use Rattle.std.specs.Prelude.{ℕ, ◌+◌, Bool, not, ◌&&◌, ◌||◌, ◌==◌, nat_lt, List, [], ◌∷◌, ◌++◌, Option, Some, None, ℤ}
+use Rattle.std.specs.Prelude.{length, is_some, is_none, if◌then◌else◌}
 use Rattle.std.specs.Option.{option_map}
 use Rattle.bl_limits.specs.declared.TheConstants.{MAX_TEXT_BYTES}
 use Rattle.bl_text.specs.Fields.{fields_of}
@@ -10,11 +11,14 @@ use Rattle.bl_mps_terms.specs.declared.fault.MpsRule.{MpsRule}
 use Rattle.bl_mps_terms.specs.declared.fault.MpsRule.TheVariants as rules
 use Rattle.bl_mps_terms.specs.declared.fault.MpsFault.{MpsFault}
 use Rattle.bl_mps_terms.specs.declared.words.Section.{Section}
-use Rattle.bl_mps_terms.specs.declared.words.Section.TheVariants.{Name, ObjSense, Rows, Columns, RightSides, Ranges, Bounds, End}
+use Rattle.bl_mps_terms.specs.declared.words.Section.TheVariants.{Name, ObjSense, Rows, Columns, RightSides, Ranges}
+use Rattle.bl_mps_terms.specs.declared.words.Section.TheVariants.{Bounds, End}
 use Rattle.bl_mps_terms.specs.Words.{Bytes, maximises, section_named}
-use Rattle.bl_mps_terms.specs.Parts.{field, is_skipped, begins_section, section_after, sections_of, has, is_in, under, senses_of, is_end, lines_read}
+use Rattle.bl_mps_terms.specs.Parts.{field, is_skipped, begins_section, section_after, sections_of, has, is_in, under}
+use Rattle.bl_mps_terms.specs.Parts.{senses_of, is_end, lines_read}
 use Rattle.bl_mps_terms.specs.Rules.{first_of, unless}
-use Rattle.bl_mps_terms.specs.Lines.{objective_of, sense_fault, row_fault, columns_of, column_fault, is_marked, right_side_fault, range_fault, bound_fault, bounds_on, whole_fault}
+use Rattle.bl_mps_terms.specs.Lines.{objective_of, sense_fault, row_fault, columns_of, column_fault, is_marked}
+use Rattle.bl_mps_terms.specs.Lines.{right_side_fault, range_fault, bound_fault, bounds_on, whole_fault}
 
 -- ---- one line
 

@@ -1,5 +1,6 @@
 -- What an MPS text says: names are looked up among whole lines. Trusted.
-use Rattle.std.specs.Prelude.{◌≡◌, ℕ, Bool, false, not, List, [], ◌∷◌, Option, Some, None, ℤ, pos, negsuc, ◌+ℤ◌, ◌-ℤ◌, unwrap_or, map, filter, if◌then◌else◌}
+use Rattle.std.specs.Prelude.{◌≡◌, ℕ, Bool, false, not, List, [], ◌∷◌, Option, Some, None, ℤ, pos, negsuc, ◌+ℤ◌, ◌-ℤ◌}
+use Rattle.std.specs.Prelude.{unwrap_or, map, filter, if◌then◌else◌}
 use Rattle.std.specs.Option.{option_map}
 use Rattle.std.specs.List.{flat_map, list_any, enumerate_from, AllZip}
 use Rattle.std.specs.Str.{bytes_eq}
@@ -13,7 +14,8 @@ use Rattle.bl_mps_terms.specs.declared.words.Section.TheVariants.{Rows, Columns,
 use Rattle.bl_mps_terms.specs.Words.{Bytes, row_kind, maximises}
 use Rattle.bl_mps_terms.specs.Parts.{field, under, senses_of, lines_read}
 use Rattle.bl_mps_terms.specs.Rules.{is_zero, number}
-use Rattle.bl_mps_terms.specs.Lines.{row_names, objective_of, bounded_rows, columns_of, pairs_on, pairs_of_set, bounds_on, lower_of, upper_of}
+use Rattle.bl_mps_terms.specs.Lines.{row_names, objective_of, bounded_rows, columns_of, pairs_on, pairs_of_set}
+use Rattle.bl_mps_terms.specs.Lines.{bounds_on, lower_of, upper_of}
 use Rattle.bl_mps_terms.specs.Faults.{first_fault}
 
 -- ---- rows

@@ -1,10 +1,12 @@
 -- An MPS text as its sections: which lines begin one, and which lines stand under one. Trusted.
-use Rattle.std.specs.Prelude.{ℕ, Bool, false, not, ◌&&◌, ◌||◌, ◌==◌, List, [], ◌∷◌, ◌++◌, Option, Some, None, length, slice_index_or, take, drop, if◌then◌else◌}
+use Rattle.std.specs.Prelude.{ℕ, Bool, false, not, ◌&&◌, ◌||◌, ◌==◌, List, [], ◌∷◌, ◌++◌, Option, Some, None, length}
+use Rattle.std.specs.Prelude.{slice_index_or, take, drop, if◌then◌else◌}
 use Rattle.std.specs.Option.{option_to_list}
 use Rattle.std.specs.List.{list_any, take_while}
 use Rattle.bl_text.specs.Fields.{fields_of, is_blank}
 use Rattle.bl_mps_terms.specs.declared.words.Section.{Section}
-use Rattle.bl_mps_terms.specs.declared.words.Section.TheVariants.{Name, ObjSense, Rows, Columns, RightSides, Ranges, Bounds, End}
+use Rattle.bl_mps_terms.specs.declared.words.Section.TheVariants.{Name, ObjSense, Rows, Columns, RightSides, Ranges}
+use Rattle.bl_mps_terms.specs.declared.words.Section.TheVariants.{Bounds, End}
 use Rattle.bl_mps_terms.specs.Words.{Bytes, section_named}
 
 -- the field at a place, counted from 0

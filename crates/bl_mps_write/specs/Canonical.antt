@@ -1,5 +1,6 @@
 -- Trusted. The canonical MPS text of a model.
-use Rattle.std.specs.Prelude.{ℕ, Bool, List, [], ◌++◌, slice_index_or, map, ℤ, pos, ◌-ℤ◌, nat_le, unsigned_abs, Option, Some, None, codes, if◌then◌else◌}
+use Rattle.std.specs.Prelude.{ℕ, Bool, List, [], ◌++◌, slice_index_or, map, ℤ, pos, ◌-ℤ◌, nat_le, unsigned_abs, Option}
+use Rattle.std.specs.Prelude.{Some, None, codes, if◌then◌else◌}
 use Rattle.std.specs.List.{flat_map}
 use Rattle.std.specs.Fmt.{signed_decimal}
 use Rattle.std.specs.Ordering.{int_eq}

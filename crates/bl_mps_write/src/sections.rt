@@ -1,7 +1,9 @@
 //! The lines of each section, put at a text's end.
 ghost use Rattle.std.specs.Prelude.{◌≡◌, ◌++◌, ◌<◌, length, All, OnOk};
 ghost use Rattle.bl_raw.specs.Raw.{IsRow};
-ghost use Rattle.bl_mps_write.specs.Canonical.{row_lines, name_at, coefficient_lines, cost_and_coefficients, column_lines, nonzero_line, range_line, rhs_lines, range_lines, both_bounds, bound_lines};
+ghost use Rattle.bl_mps_write.specs.Canonical.{row_lines, name_at, coefficient_lines, cost_and_coefficients};
+ghost use Rattle.bl_mps_write.specs.Canonical.{column_lines, nonzero_line, range_line, rhs_lines, range_lines};
+ghost use Rattle.bl_mps_write.specs.Canonical.{both_bounds, bound_lines};
 
 use crate::form::{form_of, letter_of};
 use crate::put::{put_number, put_words};

@@ -17,8 +17,9 @@ fn put_sense(text: &mut Vec<u8>, maximise: bool) -> Result<(), AllocError>
     Ok(())
 }
 
-/// The canonical text of a model: one space between fields and before each data line, names as they are, numbers in plain
-/// decimal, a column's cost also where it is 0, every heading but OBJSENSE, and both bounds of each column.
+/// The canonical text of a model: one space between fields and before each data line, names as
+/// they are, numbers in plain decimal, a column's cost also where it is 0, every heading but
+/// OBJSENSE, and both bounds of each column.
 #[tactic(auto, unfolding(crate::specs::Canonical::mps_text))]
 pub fn write_mps(alloc: Global, mps: &RawMps) -> Result<Vec<u8>, AllocError>
     requires { IsRawModel mps.now }

@@ -1,5 +1,6 @@
 -- The parts of a number, their digits and their value.
-use Rattle.std.proofs.Common.{◌≡◌, ℕ, ◌+◌, ◌*◌, ◌^◌, ◌<◌, Bool, true, false, leb, ltb, List, [], ◌∷◌, ◌++◌, length, drop, Option, Some, None, refl, ap, arith, inl, inr}
+use Rattle.std.proofs.Common.{◌≡◌, ℕ, ◌+◌, ◌*◌, ◌^◌, ◌<◌, Bool, true, false, leb, ltb, List, [], ◌∷◌, ◌++◌, length}
+use Rattle.std.proofs.Common.{drop, Option, Some, None, refl, ap, arith, inl, inr}
 use Rattle.std.specs.Char.{is_ascii_digit}
 use Rattle.std.specs.Option.{option_map}
 use Rattle.std.specs.Str.Parse.{AllDigits, digits_value, starts_with_minus, without_leading_sign, without_leading_plus}
@@ -7,7 +8,8 @@ use Rattle.std.proofs.lemmas.Bool.{cases_lt}
 use Rattle.std.proofs.lemmas.Bool.Decides.{nat_tests}
 use Rattle.bl_limits.specs.declared.TheConstants.{MAX_WHOLE}
 use Rattle.bl_text.proofs.Digits.{AllDigits-from_test, and_true}
-use Rattle.bl_num.specs.Numbers.{Parts, are_digits, is_numeral, is_number, power_of, magnitude_of, exact_quotient, coefficient_of, limited}
+use Rattle.bl_num.specs.Numbers.{Parts, are_digits, is_numeral, is_number, power_of, magnitude_of, exact_quotient}
+use Rattle.bl_num.specs.Numbers.{coefficient_of, limited}
 use Rattle.bl_num.specs.Capped.{capped, raised_magnitude, lowered_magnitude}
 
 -- the parts have digits where a number has them

@@ -1,5 +1,7 @@
 -- What is read of a text is what the grammar says.
-use Rattle.std.proofs.Common.{◌≡◌, ℕ, zero, suc, ◌+◌, ◌*◌, ◌^◌, ◌<◌, ◌≤◌, Bool, true, false, cond, List, [], ◌∷◌, ◌++◌, Option, Some, None, Ok, Err, Result, refl, sym, ap, subst, ◌∙◌, arith, inl, inr, ℤ, pos, negsuc, neg_ℤ, ◌*ℤ◌, unsigned_abs}
+use Rattle.std.proofs.Common.{◌≡◌, ℕ, zero, suc, ◌+◌, ◌*◌, ◌^◌, ◌<◌, ◌≤◌, Bool, true, false, cond, List, [], ◌∷◌, ◌++◌}
+use Rattle.std.proofs.Common.{Option, Some, None, Ok, Err, Result, refl, sym, ap, subst, ◌∙◌, arith, inl, inr, ℤ, pos}
+use Rattle.std.proofs.Common.{negsuc, neg_ℤ, ◌*ℤ◌, unsigned_abs}
 use Rattle.std.specs.Fmt.{decimal}
 use Rattle.std.specs.Str.Parse.{digits_value, starts_with_minus}
 use Rattle.std.proofs.lemmas.Bool.{cases_lt, le-leb, false≢true}
@@ -9,11 +11,13 @@ use Rattle.bl_limits.specs.declared.TheConstants.{MAX_WHOLE}
 use Rattle.bl_num.specs.declared.fault.NumFault.{NumFault}
 use Rattle.bl_num.specs.declared.fault.NumFault.TheVariants.{NotNumber, NotWhole, TooLarge}
 use Rattle.bl_num.specs.Numbers.{Parts, parts_of, is_number, magnitude_of, exact_quotient, signed, limited, read_of}
-use Rattle.bl_num.specs.Grammar.{Sign, Bare, Minus, is_minus, Number, IsNumber, IsText, IsWorth, Reads, ReadsNumbers, ReadsDecimals}
+use Rattle.bl_num.specs.Grammar.{Sign, Bare, Minus, is_minus, Number, IsNumber, IsText, IsWorth, Reads, ReadsNumbers}
+use Rattle.bl_num.specs.Grammar.{ReadsDecimals}
 use Rattle.bl_num.proofs.Magnitudes.{nat_le_false}
 use Rattle.bl_num.proofs.Partings.{parts_in, parts_of-text, is_number-parts}
 use Rattle.bl_num.proofs.Parsings.{number-in}
-use Rattle.bl_num.proofs.Worths.{over, under, under-positive, magnitude_of-parts, worth-quotient, worth-sign, quotient-worth, sign-of}
+use Rattle.bl_num.proofs.Worths.{over, under, under-positive, magnitude_of-parts, worth-quotient, worth-sign}
+use Rattle.bl_num.proofs.Worths.{quotient-worth, sign-of}
 
 -- what is read of a number's text
 read_of-number : (text : List ℕ) (n : Number) → IsText text n

@@ -1,5 +1,6 @@
 -- The number that a text is, where its parts are those of one.
-use Rattle.std.proofs.Common.{◌≡◌, ℕ, ◌+◌, ◌<◌, Bool, true, false, cond, eqb, ltb, List, [], ◌∷◌, ◌++◌, length, get_or, drop, Option, Some, None, refl, sym, ap, ◌∙◌, arith, position, append_assoc, inl, inr}
+use Rattle.std.proofs.Common.{◌≡◌, ℕ, ◌+◌, ◌<◌, Bool, true, false, cond, eqb, ltb, List, [], ◌∷◌, ◌++◌, length, get_or}
+use Rattle.std.proofs.Common.{drop, Option, Some, None, refl, sym, ap, ◌∙◌, arith, position, append_assoc, inl, inr}
 use Rattle.std.specs.List.{position_or_len, before_first, after_first}
 use Rattle.std.specs.Option.{option_map_or}
 use Rattle.std.specs.Str.Parse.{IsNumeral, starts_with_minus, without_leading_sign}
@@ -7,8 +8,10 @@ use Rattle.std.proofs.lemmas.Bool.{cases_lt, lt-ltb, ltb-true, eqb-true}
 use Rattle.std.proofs.lemmas.List.{append-nil, take_all, drop_all}
 use Rattle.std.proofs.lemmas.List.Sums.{split_at_first, passes_at_first}
 use Rattle.bl_text.proofs.Digits.{AllDigits-from_test, and_true}
-use Rattle.bl_num.specs.Numbers.{is_mark, is_point, mantissa_of, exponent_of, parts_of, is_numeral, is_number, are_digits}
-use Rattle.bl_num.specs.Grammar.{Sign, Bare, Plus, Minus, sign_text, is_minus, Exponent, Number, fraction_digits, fraction_text, exponent_text, IsExponent, IsText}
+use Rattle.bl_num.specs.Numbers.{is_mark, is_point, mantissa_of, exponent_of, parts_of, is_numeral, is_number}
+use Rattle.bl_num.specs.Numbers.{are_digits}
+use Rattle.bl_num.specs.Grammar.{Sign, Bare, Plus, Minus, sign_text, is_minus, Exponent, Number, fraction_digits}
+use Rattle.bl_num.specs.Grammar.{fraction_text, exponent_text, IsExponent, IsText}
 
 numeral-from : (ds : List ℕ) → is_numeral ds ≡ true → IsNumeral 10 ds
 numeral-from ds h =
@@ -111,7 +114,8 @@ number-in text h =
     let point = point-in mantissa in
     let mark = mark-in body both.1 in
     let whole = before_first is_point mantissa in
-    let n : Number = record { sign = sign.sign; whole = whole; fraction = point.fraction; exponent = mark.exponent } in (
+    let n : Number
+    = record { sign = sign.sign; whole = whole; fraction = point.fraction; exponent = mark.exponent } in (
       n,
       record {
         is_number = record {

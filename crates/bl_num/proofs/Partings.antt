@@ -1,5 +1,7 @@
 -- A number's text, taken apart where its sign, its point and its mark stand.
-use Rattle.std.proofs.Common.{◌≡◌, ◌≢◌, ℕ, ◌+◌, ◌<◌, Bool, true, false, cond, eqb, ltb, List, [], ◌∷◌, ◌++◌, length, get_or, take, drop, Option, Some, None, refl, sym, ap, subst, ◌∙◌, arith, position, append_assoc, length-append}
+use Rattle.std.proofs.Common.{◌≡◌, ◌≢◌, ℕ, ◌+◌, ◌<◌, Bool, true, false, cond, eqb, ltb, List, [], ◌∷◌, ◌++◌, length}
+use Rattle.std.proofs.Common.{get_or, take, drop, Option, Some, None, refl, sym, ap, subst, ◌∙◌, arith, position}
+use Rattle.std.proofs.Common.{append_assoc, length-append}
 use Rattle.std.specs.List.{position_or_len, before_first, after_first, AllByRecursion}
 use Rattle.std.specs.Option.{option_map_or}
 use Rattle.std.specs.Int.{IsInRange}
@@ -11,7 +13,8 @@ use Rattle.std.proofs.Math.Seq.{take-append_seam, drop-append-add}
 use Rattle.std.proofs.lemmas.Str.Parse.{digit_at}
 use Rattle.bl_text.proofs.Digits.{test-from_AllDigits}
 use Rattle.bl_num.specs.Numbers.{Parts, is_mark, is_point, mantissa_of, exponent_of, parts_of, is_numeral, is_number}
-use Rattle.bl_num.specs.Grammar.{Sign, Bare, Plus, Minus, sign_text, is_minus, Exponent, Number, fraction_digits, fraction_text, exponent_text, text_of, IsExponent, IsNumber, power, is_lowered}
+use Rattle.bl_num.specs.Grammar.{Sign, Bare, Plus, Minus, sign_text, is_minus, Exponent, Number, fraction_digits}
+use Rattle.bl_num.specs.Grammar.{fraction_text, exponent_text, text_of, IsExponent, IsNumber, power, is_lowered}
 
 ltb-same : (n : ℕ) → ltb n n ≡ false
 ltb-same n = grind (arith, nat_tests)

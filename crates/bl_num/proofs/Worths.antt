@@ -1,5 +1,7 @@
 -- The value of a number as a quotient that leaves no rest.
-use Rattle.std.proofs.Common.{◌≡◌, ℕ, zero, suc, ◌+◌, ◌*◌, ◌/◌, ◌%◌, ◌^◌, ◌<◌, Bool, true, false, cond, eqb, ltb, length, ◌++◌, Option, Some, None, refl, sym, ap, subst, ◌∙◌, arith, ℤ, pos, negsuc, neg_ℤ, ◌*ℤ◌, unsigned_abs}
+use Rattle.std.proofs.Common.{◌≡◌, ℕ, zero, suc, ◌+◌, ◌*◌, ◌/◌, ◌%◌, ◌^◌, ◌<◌, Bool, true, false, cond, eqb, ltb}
+use Rattle.std.proofs.Common.{length, ◌++◌, Option, Some, None, refl, sym, ap, subst, ◌∙◌, arith, ℤ, pos, negsuc, neg_ℤ}
+use Rattle.std.proofs.Common.{◌*ℤ◌, unsigned_abs}
 use Rattle.std.specs.Prelude.{int_lt}
 use Rattle.std.specs.Str.Parse.{digits_value, without_leading_sign}
 use Rattle.std.proofs.Math.Nat.{one-le-pow}

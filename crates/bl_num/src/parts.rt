@@ -2,7 +2,8 @@
 ghost use Rattle.std.specs.Prelude.{◌≡◌, position};
 ghost use Rattle.std.specs.List.{before_first, after_first};
 ghost use Rattle.std.specs.Str.Parse.{starts_with_minus, without_leading_sign};
-ghost use Rattle.bl_num.specs.Numbers.{parts_of, is_mark, is_point, is_numeral, is_number, are_digits, mantissa_of, exponent_of};
+ghost use Rattle.bl_num.specs.Numbers.{parts_of, is_mark, is_point, is_numeral, is_number, are_digits, mantissa_of};
+ghost use Rattle.bl_num.specs.Numbers.{exponent_of};
 
 use std::marker::Model;
 

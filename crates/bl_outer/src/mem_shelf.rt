@@ -130,7 +130,9 @@ impl Shelf for MemShelf {
     ghost use Rattle.bl_outer.specs.FaultPlan.{is_to_fail, after_call};
     ghost use Rattle.bl_outer.specs.Files.{Empties, Appends, AppendsPrefix};
     ghost use Rattle.bl_outer.specs.MemShelf.{shelf_state};
-    ghost use Rattle.bl_outer.specs.Shelf.{Nothing, IsReading, IsWriting, chosen_name, mode_found, mode_read, mode_begun, FindsIn, GivesNext, OnlyReads, OnlyWrites, CountsFault, CountsMiss};
+    ghost use Rattle.bl_outer.specs.Shelf.{Nothing, IsReading, IsWriting, chosen_name, mode_found, mode_read};
+    ghost use Rattle.bl_outer.specs.Shelf.{mode_begun, FindsIn, GivesNext, OnlyReads, OnlyWrites, CountsFault};
+    ghost use Rattle.bl_outer.specs.Shelf.{CountsMiss};
 
     ghost state = { shelf_state };
 

@@ -3,7 +3,8 @@
 ghost use Rattle.std.specs.Prelude.{◌≡◌, ◌<◌, ◌≤◌, length, drop, IfOk, OnOk, OnErr};
 ghost use Rattle.bl_outer.specs.Count.{HasCause};
 ghost use Rattle.bl_outer.specs.Files.{IfTold, Told, Empties, StaysOrEmpties, Appends, AppendsPrefix};
-ghost use Rattle.bl_outer.specs.Shelf.{ShelfState, Nothing, IsReading, IsWriting, chosen_name, mode_found, mode_read, mode_begun, FindsIn, GivesNext, OnlyReads, OnlyWrites, CountsFault, CountsMiss};
+ghost use Rattle.bl_outer.specs.Shelf.{ShelfState, Nothing, IsReading, IsWriting, chosen_name, mode_found, mode_read};
+ghost use Rattle.bl_outer.specs.Shelf.{mode_begun, FindsIn, GivesNext, OnlyReads, OnlyWrites, CountsFault, CountsMiss};
 
 /// A call of a shelf failed. What failed isn't told.
 #[derive(Clone, Copy, Debug, PartialEq, Eq)]

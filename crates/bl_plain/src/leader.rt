@@ -17,7 +17,8 @@ fn try_responses(model: &Bilevel, z: &mut [i64], columns: &[u32], least: i64, be
     requires point { InBox model.now z.old }
     requires columns { All (λ c. c < column_count model.now) columns.now }
     requires room { length best.old.point ≡ column_count model.now }
-    ensures best { Improves model.now (Among model.now columns.now z.old (AnswersAt model.now least)) best.old best.new }
+    ensures best { Improves model.now
+        (Among model.now columns.now z.old (AnswersAt model.now least)) best.old best.new }
     ensures point { Varies model.now columns.now z.old z.new }
     ensures room { length best.new.point ≡ column_count model.now }
 {
@@ -41,7 +42,8 @@ fn try_values(
     requires column { column < column_count model.now }
     requires rest { All (λ c. c < column_count model.now) rest.now }
     requires room { length best.old.point ≡ column_count model.now }
-    ensures best { Improves model.now (Among model.now (column ∷ rest.now) z.old (AnswersAt model.now least)) best.old best.new }
+    ensures best { Improves model.now
+        (Among model.now (column ∷ rest.now) z.old (AnswersAt model.now least)) best.old best.new }
     ensures point { Varies model.now (column ∷ rest.now) z.old z.new }
     ensures room { length best.new.point ≡ column_count model.now }
 {
@@ -58,7 +60,8 @@ fn try_leaders(model: &Bilevel, z: &mut [i64], columns: &[u32], best: &mut Best)
     requires point { InBox model.now z.old }
     requires columns { All (λ c. c < column_count model.now) columns.now }
     requires room { length best.old.point ≡ column_count model.now }
-    ensures best { Improves model.now (Among model.now (columns.now ++ model.now.follower) z.old (BilevelFeasible model.now)) best.old best.new }
+    ensures best { Improves model.now
+        (Among model.now (columns.now ++ model.now.follower) z.old (BilevelFeasible model.now)) best.old best.new }
     ensures point { Varies model.now (columns.now ++ model.now.follower) z.old z.new }
     ensures room { length best.new.point ≡ column_count model.now }
 {
@@ -75,7 +78,8 @@ fn try_choices(model: &Bilevel, z: &mut [i64], column: usize, rest: &[u32], best
     requires column { column < column_count model.now }
     requires rest { All (λ c. c < column_count model.now) rest.now }
     requires room { length best.old.point ≡ column_count model.now }
-    ensures best { Improves model.now (Among model.now (column ∷ (rest.now ++ model.now.follower)) z.old (BilevelFeasible model.now)) best.old best.new }
+    ensures best { Improves model.now (Among model.now (column ∷ (rest.now ++ model.now.follower)) z.old
+        (BilevelFeasible model.now)) best.old best.new }
     ensures point { Varies model.now (column ∷ (rest.now ++ model.now.follower)) z.old z.new }
     ensures room { length best.new.point ≡ column_count model.now }
 {
@@ -90,7 +94,8 @@ fn try_choices(model: &Bilevel, z: &mut [i64], column: usize, rest: &[u32], best
 fn try_follower(model: &Bilevel, z: &mut [i64], best: &mut Best)
     requires point { InBox model.now z.old }
     requires room { length best.old.point ≡ column_count model.now }
-    ensures best { Improves model.now (Among model.now model.now.follower z.old (BilevelFeasible model.now)) best.old best.new }
+    ensures best { Improves model.now
+        (Among model.now model.now.follower z.old (BilevelFeasible model.now)) best.old best.new }
     ensures point { Varies model.now model.now.follower z.old z.new }
     ensures room { length best.new.point ≡ column_count model.now }
 {

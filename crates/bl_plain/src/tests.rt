@@ -53,7 +53,8 @@ fn follower(
     costs: &[i64],
     sense: i64,
 ) -> Result<RawAux, Fail>
-    ensures { IfOk result (λ aux. aux ≡ record { columns = columns.now; rows = rows.now; costs = costs.now; sense = sense }) }
+    ensures { IfOk result
+        (λ aux. aux ≡ record { columns = columns.now; rows = rows.now; costs = costs.now; sense = sense }) }
 {
     Ok(RawAux {
         columns: Listed::new(columns.to_vec(alloc)?),

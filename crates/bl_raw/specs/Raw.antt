@@ -1,5 +1,6 @@
 -- Trusted. What a model's two texts say, and the limits that they keep.
-use Rattle.std.specs.Prelude.{◌≡◌, ℕ, ◌<◌, ◌≤◌, ◌⊎◌, List, length, map, ℤ, pos, negsuc, ◌≤ℤ◌, unsigned_abs, ◌≢◌, None, Some, IfSome, IsSome, All, AllPairs}
+use Rattle.std.specs.Prelude.{◌≡◌, ℕ, ◌<◌, ◌≤◌, ◌⊎◌, List, length, map, ℤ, pos, negsuc, ◌≤ℤ◌, unsigned_abs, ◌≢◌, None}
+use Rattle.std.specs.Prelude.{Some, IfSome, IsSome, All, AllPairs}
 use Rattle.std.specs.List.Sorted.{IsStrictlyIncreasing}
 use Rattle.bl_limits.specs.declared.TheConstants.{MAX_COLUMNS, MAX_TEXT_ROWS, MAX_NUMBER, MAX_RHS}
 use Rattle.bl_raw.specs.declared.raw.RawRow.{RawRow}

@@ -20,9 +20,13 @@ use Rattle.bl_terms.specs.Trees.{point_count}
 use Rattle.bl_run.specs.declared.status.Answer.{Answer}
 use Rattle.bl_run.specs.declared.status.Answer.TheVariants as answer
 use Rattle.bl_run.specs.Words.{ModelWords, AreAsked, AreRefused}
-use Rattle.bl_run.specs.Texts.{IsMpsText, IsMpsFault, IsAuxText, IsAuxFault, IsNotYet, sizes, mps_rule, mps_place, aux_rule, line_place}
-use Rattle.bl_run.specs.Endings.{Place, AsWhole, Ending, Done, NoPoint, BadWords, BadText, NodesSpent, FollowerSpent, ReadFault, WriteFault, OutOfMemory, NotAccepted, Missing, ManyPoints, ToFile, ToOutput, status_of, line_of}
-use Rattle.bl_run.specs.Solve.{HasAux, HasMps, IsMissing, IsSmall, ReadsBoth, ReadsMps, RefusesAux, RefusesBox, RefusesMps, RefusesText, Run, program}
+use Rattle.bl_run.specs.Texts.{IsMpsText, IsMpsFault, IsAuxText, IsAuxFault, IsNotYet, sizes, mps_rule, mps_place}
+use Rattle.bl_run.specs.Texts.{aux_rule, line_place}
+use Rattle.bl_run.specs.Endings.{Place, AsWhole, Ending, Done, NoPoint, BadWords, BadText, NodesSpent, FollowerSpent}
+use Rattle.bl_run.specs.Endings.{ReadFault, WriteFault, OutOfMemory, NotAccepted, Missing, ManyPoints, ToFile, ToOutput}
+use Rattle.bl_run.specs.Endings.{status_of, line_of}
+use Rattle.bl_run.specs.Solve.{HasAux, HasMps, IsMissing, IsSmall, ReadsBoth, ReadsMps, RefusesAux, RefusesBox}
+use Rattle.bl_run.specs.Solve.{RefusesMps, RefusesText, Run, program}
 use Rattle.bl_run.specs.Promise.{Outside, HasCause, ComesFirst, EndsInAnswer, IsDue, Tells, Promise}
 use Rattle.bl_run.specs.Steps.{answer_ending, EndsCommand}
 

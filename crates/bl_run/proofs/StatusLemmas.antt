@@ -1,5 +1,6 @@
 -- What a line in pieces leaves on a sink, by how far it came.
-use Rattle.std.proofs.Common.{◌≡◌, ℕ, ◌+◌, ◌<◌, List, ◌∷◌, ◌++◌, length, take, drop, get_or, Bor, sym, ap, subst, ◌∙◌, inl, inr, add-one, drop-cons, append_assoc, codes}
+use Rattle.std.proofs.Common.{◌≡◌, ℕ, ◌+◌, ◌<◌, List, ◌∷◌, ◌++◌, length, take, drop, get_or, Bor, sym, ap, subst, ◌∙◌}
+use Rattle.std.proofs.Common.{inl, inr, add-one, drop-cons, append_assoc, codes}
 use Rattle.std.specs.Prelude.{Some, Ok, Err}
 use Rattle.std.specs.declared.result.Result.{Result}
 use Rattle.std.specs.List.{flat_map}

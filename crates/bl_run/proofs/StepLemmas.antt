@@ -26,10 +26,12 @@ use Rattle.bl_run.specs.Words.{ModelWords, AreAsked, AreRefused, each_command, s
 use Rattle.bl_run.specs.Texts.{IsMpsText, IsMpsFault, IsAuxText, IsAuxFault}
 use Rattle.bl_run.specs.Report.{Statement}
 use Rattle.bl_run.specs.Report as report
-use Rattle.bl_run.specs.Endings.{Place, AsWhole, Ending, Done, NoPoint, BadWords, BadText, NodesSpent, FollowerSpent, ReadFault, WriteFault, OutOfMemory, NotAccepted, Missing, ManyPoints, ToOutput}
+use Rattle.bl_run.specs.Endings.{Place, AsWhole, Ending, Done, NoPoint, BadWords, BadText, NodesSpent, FollowerSpent}
+use Rattle.bl_run.specs.Endings.{ReadFault, WriteFault, OutOfMemory, NotAccepted, Missing, ManyPoints, ToOutput}
 use Rattle.bl_run.specs.Solve.{Run, ReadsBoth, ReadsMps, IsSmall, IsRight, Finishes, printed_by, ending_by, IsCause}
 use Rattle.bl_run.specs.Promise.{Outside, HasCause, Prints, ReadFaultsAt, MissesAt, WriteFaultsAt, Leaves}
-use Rattle.bl_run.specs.Steps.{answer_ending, failure_ending, ReadsTo, HasText, FailsToRead, NoFault, IsTooLong, FailsToSolve, Ends, EndsCommand}
+use Rattle.bl_run.specs.Steps.{answer_ending, failure_ending, ReadsTo, HasText, FailsToRead, NoFault, IsTooLong}
+use Rattle.bl_run.specs.Steps.{FailsToSolve, Ends, EndsCommand}
 
 -- there is a longer text than any limit
 some_longer : (limit : ℕ) → (text : List ℕ) × (limit < length text)

@@ -6,7 +6,8 @@ use Rattle.bl_outer.specs.Shelf.{ShelfState, FaultsOn, NoReadFault}
 use Rattle.bl_outer.specs.Sink.{SinkState, Adds, AddsPrefix}
 use Rattle.bl_words.specs.declared.commands.Command.{Command}
 use Rattle.bl_run.specs.Words.{AreAsked, AreRefused}
-use Rattle.bl_run.specs.Endings.{Place, ToFile, ToOutput, Ending, Done, NoPoint, BadWords, BadText, ReadFault, WriteFault, OutOfMemory, Missing, status_of, line_of}
+use Rattle.bl_run.specs.Endings.{Place, ToFile, ToOutput, Ending, Done, NoPoint, BadWords, BadText, ReadFault}
+use Rattle.bl_run.specs.Endings.{WriteFault, OutOfMemory, Missing, status_of, line_of}
 use Rattle.bl_run.specs.Solve.{Run, report, ReadsBoth, IsSmall, RefusesText, IsMissing, IsCause}
 
 -- what a command works on: the files and the output

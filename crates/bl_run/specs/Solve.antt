@@ -11,7 +11,8 @@ use Rattle.bl_words.specs.declared.commands.Command.TheVariants.{Solve, Show}
 use Rattle.bl_run.specs.Words.{ModelWords}
 use Rattle.bl_run.specs.Texts.{IsMpsText, IsMpsFault, IsAuxText, IsAuxFault, IsNotYet}
 use Rattle.bl_run.specs.Report.{Statement, Best, None, Answers, report_of, show_text}
-use Rattle.bl_run.specs.Endings.{Place, ToFile, ToOutput, Ending, Done, NoPoint, BadWords, BadText, NodesSpent, FollowerSpent, ReadFault, WriteFault, OutOfMemory, NotAccepted, Missing, ManyPoints}
+use Rattle.bl_run.specs.Endings.{Place, ToFile, ToOutput, Ending, Done, NoPoint, BadWords, BadText, NodesSpent}
+use Rattle.bl_run.specs.Endings.{FollowerSpent, ReadFault, WriteFault, OutOfMemory, NotAccepted, Missing, ManyPoints}
 use Rattle.bl_limits.specs.declared.TheConstants.{MAX_WALK_POINTS}
 
 -- One run: its words, the texts of its files, what they say, and the statement that answers them. All that is promised

@@ -1,5 +1,6 @@
 -- Internal: what the private calls of a command promise one another.
-use Rattle.std.specs.Prelude.{Bool, ℤ, pos, ◌≤ℤ◌, ◌≤◌, unsigned_abs, ◌≡◌, ℕ, ◌<◌, List, ◌++◌, length, Option, Ok, Err, ⊤, codes}
+use Rattle.std.specs.Prelude.{Bool, ℤ, pos, ◌≤ℤ◌, ◌≤◌, unsigned_abs, ◌≡◌, ℕ, ◌<◌, List, ◌++◌, length, Option, Ok, Err}
+use Rattle.std.specs.Prelude.{⊤, codes}
 use Rattle.std.specs.declared.result.Result.{Result}
 use Rattle.bl_outer.specs.Count.{Grew}
 use Rattle.bl_outer.specs.Files.{Files, IfTold, Told, IsAbsent}
@@ -25,7 +26,8 @@ use Rattle.bl_run.specs.Texts.{IsNotYet}
 use Rattle.bl_run.specs.declared.fault.TextFault.{TextFault}
 use Rattle.bl_run.specs.declared.fault.Place as place
 use Rattle.bl_run.specs.declared.fault.Place.TheVariants as variant
-use Rattle.bl_run.specs.Endings.{Place, AtLine, AtColumn, AsWhole, ToOutput, Ending, Done, NoPoint, BadWords, BadText, ReadFault, WriteFault, OutOfMemory, Missing, place_text, file_line}
+use Rattle.bl_run.specs.Endings.{Place, AtLine, AtColumn, AsWhole, ToOutput, Ending, Done, NoPoint, BadWords, BadText}
+use Rattle.bl_run.specs.Endings.{ReadFault, WriteFault, OutOfMemory, Missing, place_text, file_line}
 use Rattle.bl_run.specs.Report.{Statement, Answers, report_of}
 use Rattle.bl_run.specs.Solve.{Run, ending_of, IsCause}
 use Rattle.bl_run.specs.Promise.{Outside, HasCause, ReadFaultsAt, MissesAt, Leaves}

@@ -63,7 +63,8 @@ fn push_links(text: &mut Vec<u8>, links: &[u32]) -> Result<(), AllocError>
 }
 
 fn push_numbers(text: &mut Vec<u8>, numbers: &[u32]) -> Result<(), AllocError>
-    ensures { OnOk result (text.new.items ≡ text.old.items ++ flat_map (λ number. codes " " ++ decimal number) numbers.now) }
+    ensures { OnOk result
+        (text.new.items ≡ text.old.items ++ flat_map (λ number. codes " " ++ decimal number) numbers.now) }
 {
     for number in numbers {
         push_spaced(text, *number)?;

@@ -1,6 +1,7 @@
 //! The command `solve`.
 
-ghost use Rattle.std.specs.Prelude.{◌≡◌, ◌↔◌, ◌<◌, ◌≤◌, ◌+ℤ◌, ◌-ℤ◌, ◌*ℤ◌, ◌≤ℤ◌, pos, length, unsigned_abs, IfOk, IfErr, IsTrue};
+ghost use Rattle.std.specs.Prelude.{◌≡◌, ◌↔◌, ◌<◌, ◌≤◌, ◌+ℤ◌, ◌-ℤ◌, ◌*ℤ◌, ◌≤ℤ◌, pos, length, unsigned_abs, IfOk, IfErr};
+ghost use Rattle.std.specs.Prelude.{IsTrue};
 ghost use Rattle.bl_limits.specs.declared.TheConstants.{MAX_NUMBER, MAX_WALK_POINTS};
 ghost use Rattle.bl_whole.specs.Within.{IsWithin};
 ghost use Rattle.bl_terms.specs.Programs.{root, InBox, follower_at, columns as column_count};

@@ -1,5 +1,6 @@
 -- Trusted: the dictionary of the simplex method over a box (Chvatal 1983), and the one that a problem begins with.
-use Rattle.std.specs.Prelude.{ℕ, ◌+◌, ◌-◌, Bool, nat_lt, ◌==◌, if◌then◌else◌, ℤ, pos, negsuc, neg_ℤ, ◌-ℤ◌, ◌*ℤ◌, int_lt, unsigned_abs, List, length}
+use Rattle.std.specs.Prelude.{ℕ, ◌+◌, ◌-◌, Bool, nat_lt, ◌==◌, if◌then◌else◌, ℤ, pos, negsuc, neg_ℤ, ◌-ℤ◌, ◌*ℤ◌, int_lt}
+use Rattle.std.specs.Prelude.{unsigned_abs, List, length}
 use Rattle.bl_whole.specs.Sums.{component, sum_below}
 use Rattle.bl_terms.specs.Bounds.{Problem, linear_at}
 use Rattle.bl_simplex.specs.Fractions.{Fraction, whole_fraction}

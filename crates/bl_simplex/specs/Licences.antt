@@ -2,16 +2,19 @@
 -- that meets
 -- the rows below the cutoff, or a run of legal pivots that passes 128 bits, the limit of pivots or the limit of the
 -- proof numbers.
-use Rattle.std.specs.Prelude.{◌≡◌, ◌≢◌, ℕ, ◌+◌, ◌*◌, ◌<◌, ◌⊎◌, Option, Some, None, ℤ, pos, ◌-ℤ◌, ◌≤ℤ◌, ◌<ℤ◌, List, [], ◌∷◌, ◌++◌, length}
+use Rattle.std.specs.Prelude.{◌≡◌, ◌≢◌, ℕ, ◌+◌, ◌*◌, ◌<◌, ◌⊎◌, Option, Some, None, ℤ, pos, ◌-ℤ◌, ◌≤ℤ◌, ◌<ℤ◌, List, []}
+use Rattle.std.specs.Prelude.{◌∷◌, ◌++◌, length}
 use Rattle.bl_whole.specs.Sums.{component}
 use Rattle.bl_limits.specs.declared.TheConstants.{MAX_PROOF_NUMBER, PIVOTS_AT_LEAST, PIVOTS_PER_LINE}
 use Rattle.bl_terms.specs.Bounds.{Problem, linear_at}
 use Rattle.bl_simplex.specs.Fractions.{Fraction, IsReduced, whole_fraction}
-use Rattle.bl_simplex.specs.Rationals.{rational_sum, rational_product, rational_total, IsAtMost, fraction_at, common_denominator}
+use Rattle.bl_simplex.specs.Rationals.{rational_sum, rational_product, rational_total, IsAtMost, fraction_at}
+use Rattle.bl_simplex.specs.Rationals.{common_denominator}
 use Rattle.bl_simplex.specs.Dictionaries.{Dictionary, columns, cost_row, start_at, sign_at, opening}
 use Rattle.bl_simplex.specs.Pivots.{pivoted, replay, IsNarrowPivot, FailsFirstAt}
 use Rattle.bl_simplex.specs.LegalPivots.{IsLegal}
-use Rattle.bl_simplex.specs.Closing.{Closes, ClosesByCost, ClosesByRow, IsFirstClosingRow, row_multiplier, cost_multiplier, basic_value, PassLimit}
+use Rattle.bl_simplex.specs.Closing.{Closes, ClosesByCost, ClosesByRow, IsFirstClosingRow, row_multiplier}
+use Rattle.bl_simplex.specs.Closing.{cost_multiplier, basic_value, PassLimit}
 
 -- ---- a fractional point
 

@@ -1,6 +1,7 @@
 -- Trusted: the pivot, what stands at each place after it, where it first passes 128 bits, and the replay of a list of
 -- pivots.
-use Rattle.std.specs.Prelude.{◌≡◌, ◌≢◌, ℕ, zero, suc, ◌<◌, ◌≤◌, ◌⊎◌, ◌==◌, if◌then◌else◌, Bool, Option, None, IsSome, unwrap_or, option_map, option_and_then, pos, List, [], ◌∷◌, ◌++◌}
+use Rattle.std.specs.Prelude.{◌≡◌, ◌≢◌, ℕ, zero, suc, ◌<◌, ◌≤◌, ◌⊎◌, ◌==◌, if◌then◌else◌, Bool, Option, None, IsSome}
+use Rattle.std.specs.Prelude.{unwrap_or, option_map, option_and_then, pos, List, [], ◌∷◌, ◌++◌}
 use Rattle.bl_terms.specs.Bounds.{Problem}
 use Rattle.bl_simplex.specs.Fractions.{Fraction, whole_fraction, negated, product_of, quotient_of, difference_of}
 use Rattle.bl_simplex.specs.Dictionaries.{Dictionary, columns, cost_row, height_of, width_of, opening}

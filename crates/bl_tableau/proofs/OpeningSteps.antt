@@ -1,5 +1,7 @@
 -- The opening dictionary, number by number.
-use Rattle.std.proofs.Common.{◌≡◌, ℕ, ◌+◌, ◌*◌, ◌-◌, ◌^◌, ◌<◌, ◌≤◌, inl, inr, true, false, Bool, cond, List, [], ◌∷◌, ◌++◌, length, ℤ, pos, negsuc, neg_ℤ, ◌-ℤ◌, ◌*ℤ◌, unsigned_abs, FitsSigned, to_z, of_z, lit<, lit≤, refl, sym, ap, ◌∙◌, subst, arith, length-append}
+use Rattle.std.proofs.Common.{◌≡◌, ℕ, ◌+◌, ◌*◌, ◌-◌, ◌^◌, ◌<◌, ◌≤◌, inl, inr, true, false, Bool, cond, List, [], ◌∷◌}
+use Rattle.std.proofs.Common.{◌++◌, length, ℤ, pos, negsuc, neg_ℤ, ◌-ℤ◌, ◌*ℤ◌, unsigned_abs, FitsSigned, to_z, of_z}
+use Rattle.std.proofs.Common.{lit<, lit≤, refl, sym, ap, ◌∙◌, subst, arith, length-append}
 use Rattle.std.specs.Prelude.{Option, Some, None, IsSome, ◌==◌, slice_index_or, nat_lt, int_lt}
 use Rattle.std.specs.Option.{SomeIff}
 use Rattle.std.specs.Int.{w64, w128, from_bool}
@@ -11,13 +13,15 @@ use Rattle.std.proofs.lemmas.Bool.{cases_eq}
 use Rattle.bl_whole.specs.Sums.{component, dot}
 use Rattle.bl_whole.specs.Within.{IsWithin, AreWithin, PartialDotsFit}
 use Rattle.bl_whole.proofs.SumLemmas.{sum_below-agree}
-use Rattle.bl_whole.proofs.WithinLemmas.{within_more, within_dot, within_entry, within_product, within_negation, dots_fit, fits_from_within, within_difference}
+use Rattle.bl_whole.proofs.WithinLemmas.{within_more, within_dot, within_entry, within_product, within_negation}
+use Rattle.bl_whole.proofs.WithinLemmas.{dots_fit, fits_from_within, within_difference}
 use Rattle.bl_terms.specs.Bounds.{Problem, Fits, linear_at, no_linear}
 use Rattle.bl_terms.specs.Points.{Linear}
 use Rattle.bl_simplex.specs.Fractions.{Fraction, IsReduced, whole_fraction}
 use Rattle.bl_frac.proofs.Signed.{signed_back}
 use Rattle.bl_frac.proofs.LowestTerms.{minus_natural}
-use Rattle.bl_simplex.specs.Dictionaries.{columns, cost_row, start_at, at_start, descends, sign_at, opening_number, opening_entry, opening_right, width_of}
+use Rattle.bl_simplex.specs.Dictionaries.{columns, cost_row, start_at, at_start, descends, sign_at, opening_number}
+use Rattle.bl_simplex.specs.Dictionaries.{opening_entry, opening_right, width_of}
 use Rattle.bl_simplex.specs.Rationals.{fraction_at}
 use Rattle.bl_tableau.specs.Cells.{placed, AreReduced}
 use Rattle.bl_tableau.proofs.RowSteps.{row_within, test_other}

@@ -2,7 +2,8 @@
 use Rattle.std.proofs.Common.{◌≡◌, Bool, true, false, pos, refl, sym, ap, ◌∙◌}
 use Rattle.std.specs.Prelude.{Option, Some, option_map, option_and_then}
 use Rattle.bl_simplex.specs.Fractions.{Fraction, IsReduced, negated, product_of, difference_of, quotient_of}
-use Rattle.bl_frac.proofs.Zeros.{nought, nought_from_num, product_of-nought_left, product_of-nought_right, quotient_of-nought, difference_of-nought}
+use Rattle.bl_frac.proofs.Zeros.{nought, nought_from_num, product_of-nought_left, product_of-nought_right}
+use Rattle.bl_frac.proofs.Zeros.{quotient_of-nought, difference_of-nought}
 use Rattle.bl_simplex.specs.Pivots.{scaled_entry, eliminated_entry}
 
 pub share_at_zero : (x p : Fraction) (own : Bool) → own ≡ false → IsReduced x → x.num ≡ pos 0 → IsReduced p

@@ -13,7 +13,9 @@ use Rattle.bl_tableau.specs.Solutions.{SolvesRow, Solves, AreRational, ReplayLaw
 use Rattle.bl_tableau.proofs.Scaling.{multiple, multiple_positive, dvd_multiple}
 use Rattle.bl_tableau.proofs.PivotLaw.{ArePositive, positive_after}
 use Rattle.bl_tableau.proofs.RowEquations.{ValuesPositive, product_positive}
-use Rattle.bl_tableau.proofs.ReplayProof.{Setting, row_label_own, row_label_other, column_label_own, column_label_other, says_from_old, says_from_new, old_from_says, new_from_says, new_row_solved, old_row_solved}
+use Rattle.bl_tableau.proofs.ReplayProof.{Setting, row_label_own, row_label_other, column_label_own, column_label_other}
+use Rattle.bl_tableau.proofs.ReplayProof.{says_from_old, says_from_new, old_from_says, new_from_says, new_row_solved}
+use Rattle.bl_tableau.proofs.ReplayProof.{old_row_solved}
 
 -- the denominators at column k: of rows i and r before and after the pivot, and of the column's value
 pub column_dens : Dictionary → Dictionary → ℕ → ℕ → (ℕ → Fraction) → ℕ → ℕ

@@ -11,9 +11,12 @@ use Rattle.bl_simplex.specs.Pivots.{pivoted, IsNarrowPivot}
 use Rattle.bl_tableau.specs.Solutions.{SolvesRow}
 use Rattle.bl_tableau.proofs.RowSteps.{test_same, test_other}
 use Rattle.bl_tableau.proofs.Scaling.{over, over_is, cancel}
-use Rattle.bl_tableau.proofs.PivotLaw.{own_share, other_share, own_remainder, other_remainder, ArePositive, positive_after}
-use Rattle.bl_tableau.proofs.RowAlgebra.{PivotEquation, pivot_from_row, row_from_pivot, new_from_pivot, pivot_from_new, other_row}
-use Rattle.bl_tableau.proofs.RowEquations.{ValuesPositive, CommonRow, row_total, equation_from_row, row_from_equation, quotient_over, one_quotient_over, negated_over, difference_over}
+use Rattle.bl_tableau.proofs.PivotLaw.{own_share, other_share, own_remainder, other_remainder, ArePositive}
+use Rattle.bl_tableau.proofs.PivotLaw.{positive_after}
+use Rattle.bl_tableau.proofs.RowAlgebra.{PivotEquation, pivot_from_row, row_from_pivot, new_from_pivot, pivot_from_new}
+use Rattle.bl_tableau.proofs.RowAlgebra.{other_row}
+use Rattle.bl_tableau.proofs.RowEquations.{ValuesPositive, CommonRow, row_total, equation_from_row, row_from_equation}
+use Rattle.bl_tableau.proofs.RowEquations.{quotient_over, one_quotient_over, negated_over, difference_over}
 use Rattle.bl_tableau.proofs.Replays.{sum_share, sum_new, sum_remainder}
 
 -- ---- the labels after a pivot

@@ -11,7 +11,8 @@ use Rattle.bl_frac.proofs.Rationals.{product_of-is, quotient_of-is, difference_o
 use Rattle.bl_simplex.specs.Dictionaries.{Dictionary, columns, cost_row}
 use Rattle.bl_simplex.specs.Rationals.{rational_difference, rational_product, rational_total, SameRational}
 use Rattle.bl_tableau.specs.Solutions.{SolvesRow}
-use Rattle.bl_tableau.proofs.Scaling.{IsOver, over, over_is, over_difference, over_product, over_more, over_total, over_unique, over_same, over_negated, same_from_over, over_from_same}
+use Rattle.bl_tableau.proofs.Scaling.{IsOver, over, over_is, over_difference, over_product, over_more, over_total}
+use Rattle.bl_tableau.proofs.Scaling.{over_unique, over_same, over_negated, same_from_over, over_from_same}
 use Rattle.bl_tableau.proofs.PivotLaw.{ArePositive}
 
 pub product_positive : (m n : ℕ) → 0 < m → 0 < n → 0 < m * n

@@ -1,5 +1,7 @@
 -- What a tableau keeps, over one more pivot.
-use Rattle.std.proofs.Common.{◌≡◌, ℕ, ◌+◌, ◌*◌, ◌<◌, ◌≤◌, inl, inr, true, false, Bool, cond, List, [], ◌∷◌, ◌++◌, length, take, drop, refl, sym, ap, ◌∙◌, subst, arith, length-append, length-set, get_or-set_same, get_or-set_other}
+use Rattle.std.proofs.Common.{◌≡◌, ℕ, ◌+◌, ◌*◌, ◌<◌, ◌≤◌, inl, inr, true, false, Bool, cond, List, [], ◌∷◌, ◌++◌}
+use Rattle.std.proofs.Common.{length, take, drop, refl, sym, ap, ◌∙◌, subst, arith, length-append, length-set}
+use Rattle.std.proofs.Common.{get_or-set_same, get_or-set_other}
 use Rattle.std.specs.Prelude.{Option, Some, IsSome, unwrap_or, ◌==◌, pos, slice_index, slice_index_or, slice_set}
 use Rattle.std.proofs.lemmas.Bool.{cases_eq}
 use Rattle.std.proofs.Math.Seq.{take-append_seam}
@@ -7,7 +9,8 @@ use Rattle.bl_terms.specs.Bounds.{Problem, Fits}
 use Rattle.bl_simplex.specs.Fractions.{Fraction, IsReduced, whole_fraction}
 use Rattle.bl_simplex.specs.Dictionaries.{Dictionary, columns, opening, opening_number, height_of, width_of}
 use Rattle.bl_tableau.specs.Cells.{placed, AreReduced}
-use Rattle.bl_simplex.specs.Pivots.{scaled_entry, eliminated_entry, pivot_place, pivoted, IsPivot, IsNarrowPivot, IsFirstWide, replay, AllNarrow, FailsFirstAt}
+use Rattle.bl_simplex.specs.Pivots.{scaled_entry, eliminated_entry, pivot_place, pivoted, IsPivot, IsNarrowPivot}
+use Rattle.bl_simplex.specs.Pivots.{IsFirstWide, replay, AllNarrow, FailsFirstAt}
 use Rattle.bl_tableau.specs.Runs.{Shows, KeepsReplay}
 use Rattle.bl_tableau.proofs.RowSteps.{test_same, test_other, some_is_some, read_cell, read_reduced, row_within}
 

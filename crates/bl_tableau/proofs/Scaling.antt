@@ -1,5 +1,6 @@
 -- Rational numbers over one common denominator, as whole numbers.
-use Rattle.std.proofs.Common.{◌≡◌, ℕ, zero, suc, ◌*◌, ◌/◌, ◌<◌, [], ◌∷◌, ℤ, pos, negsuc, neg_ℤ, ◌+ℤ◌, ◌-ℤ◌, ◌*ℤ◌, ◌≤ℤ◌, ◌<ℤ◌, inl, inr, refl, sym, ap, ◌∙◌, subst, arith}
+use Rattle.std.proofs.Common.{◌≡◌, ℕ, zero, suc, ◌*◌, ◌/◌, ◌<◌, [], ◌∷◌, ℤ, pos, negsuc, neg_ℤ, ◌+ℤ◌, ◌-ℤ◌, ◌*ℤ◌, ◌≤ℤ◌}
+use Rattle.std.proofs.Common.{◌<ℤ◌, inl, inr, refl, sym, ap, ◌∙◌, subst, arith}
 use Rattle.std.specs.Int.{◌∣◌}
 use Rattle.std.proofs.Math.Nat.{div-mul_cancel, mul-lt-mul_of_pos_right, dvd-mul_left, dvd-mul_right_of_dvd}
 use Rattle.std.proofs.lemmas.Bool.{cases_eq}
@@ -11,7 +12,8 @@ use Rattle.bl_whole.proofs.IdentityLemmas.{identity}
 use Rattle.bl_whole.proofs.Products.{*ℤ_assoc, neg_ℤ-*ℤ, *ℤ-neg_ℤ, le_of_mul_le}
 use Rattle.bl_frac.proofs.WholeLaws.{neg-neg}
 use Rattle.bl_simplex.specs.Fractions.{Fraction, negated, whole_fraction}
-use Rattle.bl_simplex.specs.Rationals.{rational_sum, rational_difference, rational_product, rational_total, SameRational}
+use Rattle.bl_simplex.specs.Rationals.{rational_sum, rational_difference, rational_product, rational_total}
+use Rattle.bl_simplex.specs.Rationals.{SameRational}
 
 -- f is z / m
 pub record IsOver (m : ℕ) (f : Fraction) (z : ℤ) : Type 0 where

@@ -37,7 +37,8 @@ fn loses_ratio_test(
     requires labels { length labels.now ≡ length entries.now }
     requires column_in { column < length entries.now }
     requires candidate { IsCandidate (length entries.now) (fraction_at entries.now) j }
-    ensures { IsTrue result ↔ LosesRatioTest (slice_index labels.now) column j least (ratio_of (fraction_at costs.now) (fraction_at entries.now) j) }
+    ensures { IsTrue result ↔ LosesRatioTest (slice_index labels.now) column j least
+        (ratio_of (fraction_at costs.now) (fraction_at entries.now) j) }
 {
     match div(costs[j], entries[j]) {
         Ok(ratio) => j == column || wins_ratio_test(labels[column], labels[j], least, ratio),
@@ -56,7 +57,8 @@ fn is_least_ratio(
     requires labels { length labels.now ≡ length entries.now }
     requires column_in { column < length entries.now }
     ensures { IsTrue result ↔ ((j : ℕ) → IsCandidate (length entries.now) (fraction_at entries.now) j →
-        LosesRatioTest (slice_index labels.now) column j least (ratio_of (fraction_at costs.now) (fraction_at entries.now) j)) }
+        LosesRatioTest (slice_index labels.now) column j least
+        (ratio_of (fraction_at costs.now) (fraction_at entries.now) j)) }
 {
     for j in 0..entries.len() {
         if is_negative(entries[j]) && !loses_ratio_test(costs, entries, labels, column, least, j) {
@@ -92,7 +94,8 @@ pub(crate) fn is_entering(costs: &[Frac], entries: &[Frac], labels: &[u32], colu
     requires costs { length costs.now ≡ length entries.now }
     requires labels { length labels.now ≡ length entries.now }
     requires candidate { IsCandidate (length entries.now) (fraction_at entries.now) column }
-    ensures { IsTrue result ↔ IsEntering (length entries.now) (fraction_at costs.now) (fraction_at entries.now) (slice_index labels.now) column }
+    ensures { IsTrue result ↔ IsEntering (length entries.now) (fraction_at costs.now) (fraction_at entries.now)
+        (slice_index labels.now) column }
 {
     match div(costs[column], entries[column]) {
         Ok(least) => is_least_ratio(costs, entries, labels, column, least),

@@ -1,5 +1,6 @@
 //! The opening dictionary of a problem.
-ghost use Rattle.std.specs.Prelude.{◌≡◌, ℕ, ◌+◌, ◌*◌, ◌^◌, ◌<◌, ◌≤◌, pos, negsuc, ◌*ℤ◌, length, OnOk, IfOk, slice_index, unsigned_abs, if◌then◌else◌};
+ghost use Rattle.std.specs.Prelude.{◌≡◌, ℕ, ◌+◌, ◌*◌, ◌^◌, ◌<◌, ◌≤◌, pos, negsuc, ◌*ℤ◌, length, OnOk, IfOk};
+ghost use Rattle.std.specs.Prelude.{slice_index, unsigned_abs, if◌then◌else◌};
 ghost use Rattle.bl_whole.specs.Within.{IsWithin};
 ghost use Rattle.bl_terms.specs.Bounds.{Fits};
 ghost use Rattle.bl_simplex.specs.Fractions.{whole_fraction};
@@ -66,7 +67,8 @@ fn push_row(
     requires problem_fits { Fits problem.now }
     requires row_in { i < length problem.now.rows }
     requires starts { AreStarts problem.now starts.now }
-    ensures { OnOk result (Appends cells.old.items cells.new.items (width_of problem.now) (opening_number problem.now i)) }
+    ensures { OnOk result
+        (Appends cells.old.items cells.new.items (width_of problem.now) (opening_number problem.now i)) }
 {
     let row = &problem.rows()[i];
     let coef = row.coef();

@@ -1,5 +1,6 @@
 //! A pivot, on the numbers of a dictionary row by row.
-ghost use Rattle.std.specs.Prelude.{◌≡◌, ◌≢◌, ℕ, ◌+◌, ◌*◌, ◌<◌, ◌≤◌, ◌⊎◌, ◌==◌, pos, length, Some, None, IsSome, OnOk, IfErr, IfOk, IsTrue};
+ghost use Rattle.std.specs.Prelude.{◌≡◌, ◌≢◌, ℕ, ◌+◌, ◌*◌, ◌<◌, ◌≤◌, ◌⊎◌, ◌==◌, pos, length, Some, None, IsSome, OnOk};
+ghost use Rattle.std.specs.Prelude.{IfErr, IfOk, IsTrue};
 ghost use Rattle.bl_simplex.specs.Rationals.{fraction_at};
 ghost use Rattle.bl_tableau.specs.Cells.{placed, AreReduced};
 ghost use Rattle.bl_simplex.specs.Pivots.{scaled_entry, eliminated_entry, pivot_place, IsFirstWide};
@@ -22,14 +23,18 @@ fn divide_row(cells: &mut [Frac], start: usize, width: usize, column: usize) -> 
     requires nonzero { (fraction_at cells.old (start + column)).num ≢ pos 0 }
     requires numbers { AreReduced cells.old }
     ensures ok { OnOk result ((j : ℕ) → j < width →
-        scaled_entry (fraction_at cells.old (start + j)) (fraction_at cells.old (start + column)) (j == column) ≡ Some (fraction_at cells.new (start + j))) }
-    ensures others { OnOk result ((k : ℕ) → (k < start) ⊎ (start + width ≤ k) → fraction_at cells.new k ≡ fraction_at cells.old k) }
+        scaled_entry (fraction_at cells.old (start + j)) (fraction_at cells.old (start + column)) (j == column)
+        ≡ Some (fraction_at cells.new (start + j))) }
+    ensures others { OnOk result
+        ((k : ℕ) → (k < start) ⊎ (start + width ≤ k) → fraction_at cells.new k ≡ fraction_at cells.old k) }
     ensures lowest_terms { OnOk result (AreReduced cells.new) }
     ensures err { IfErr result (λ j. j < width) }
     ensures wide { IfErr result (λ j.
-        scaled_entry (fraction_at cells.old (start + j)) (fraction_at cells.old (start + column)) (j == column) ≡ None) }
+        scaled_entry (fraction_at cells.old (start + j)) (fraction_at cells.old (start + column)) (j == column)
+        ≡ None) }
     ensures earlier { IfErr result (λ j. (k : ℕ) → k < j →
-        IsSome (scaled_entry (fraction_at cells.old (start + k)) (fraction_at cells.old (start + column)) (k == column))) }
+        IsSome (scaled_entry (fraction_at cells.old (start + k)) (fraction_at cells.old (start + column))
+        (k == column))) }
 {
     let pivot = cells[start + column];
     for j in 0..width {
@@ -57,16 +62,20 @@ fn reduce_row(
     requires column_in { column < width }
     requires numbers { AreReduced cells.old }
     ensures ok { OnOk result ((j : ℕ) → j < width →
-        eliminated_entry (fraction_at cells.old (start + column)) (fraction_at cells.old (start + j)) (fraction_at cells.old (pivot + j)) (j == column)
+        eliminated_entry (fraction_at cells.old (start + column)) (fraction_at cells.old (start + j))
+        (fraction_at cells.old (pivot + j)) (j == column)
         ≡ Some (fraction_at cells.new (start + j))) }
-    ensures others { OnOk result ((k : ℕ) → (k < start) ⊎ (start + width ≤ k) → fraction_at cells.new k ≡ fraction_at cells.old k) }
+    ensures others { OnOk result
+        ((k : ℕ) → (k < start) ⊎ (start + width ≤ k) → fraction_at cells.new k ≡ fraction_at cells.old k) }
     ensures lowest_terms { OnOk result (AreReduced cells.new) }
     ensures err { IfErr result (λ j. j < width) }
     ensures wide { IfErr result (λ j.
-        eliminated_entry (fraction_at cells.old (start + column)) (fraction_at cells.old (start + j)) (fraction_at cells.old (pivot + j)) (j == column)
+        eliminated_entry (fraction_at cells.old (start + column)) (fraction_at cells.old (start + j))
+        (fraction_at cells.old (pivot + j)) (j == column)
         ≡ None) }
     ensures earlier { IfErr result (λ j. (k : ℕ) → k < j →
-        IsSome (eliminated_entry (fraction_at cells.old (start + column)) (fraction_at cells.old (start + k)) (fraction_at cells.old (pivot + k)) (k == column))) }
+        IsSome (eliminated_entry (fraction_at cells.old (start + column)) (fraction_at cells.old (start + k))
+        (fraction_at cells.old (pivot + k)) (k == column))) }
 {
     let factor = cells[start + column];
     if is_zero(factor) {

@@ -1,5 +1,6 @@
 //! The tableau: a dictionary in memory, with the pivots that led to it.
-ghost use Rattle.std.specs.Prelude.{◌≡◌, ◌≢◌, ◌↔◌, ◌+◌, ℕ, IsTrue, ◌<◌, ◌≤◌, pos, false, [], ◌∷◌, ◌++◌, length, OnOk, IfOk, IfErr, is_err, slice_index, slice_set, true};
+ghost use Rattle.std.specs.Prelude.{◌≡◌, ◌≢◌, ◌↔◌, ◌+◌, ℕ, IsTrue, ◌<◌, ◌≤◌, pos, false, [], ◌∷◌, ◌++◌, length, OnOk};
+ghost use Rattle.std.specs.Prelude.{IfOk, IfErr, is_err, slice_index, slice_set, true};
 ghost use Rattle.bl_limits.specs.declared.TheConstants.{MAX_COLUMNS, MAX_PROBLEM_ROWS};
 ghost use Rattle.bl_terms.specs.Bounds.{Fits};
 ghost use Rattle.bl_simplex.specs.Rationals.{fraction_at};
@@ -123,7 +124,8 @@ impl<'p, 'a> Tableau<'p, 'a> {
         requires not_spent { self.now.spent ≡ false }
         requires row_in { row ≤ cost_row self.now.problem }
         ensures size { length result.now ≡ columns self.now.problem }
-        ensures places { (j : ℕ) → j < columns self.now.problem → fraction_at result.now j ≡ (current self.now).place row j }
+        ensures places { (j : ℕ) → j < columns self.now.problem
+            → fraction_at result.now j ≡ (current self.now).place row j }
     {
         let columns = self.column_labels.len();
         let start = row as usize * (columns + 1);
@@ -173,8 +175,10 @@ impl<'p, 'a> Tableau<'p, 'a> {
     /// The pivots so far, each a row and a column. Of a spent tableau the last one is the one that failed.
     pub fn pivots(&self) -> &[(u32, u32)]
         ensures value { result.now ≡ self.now.pivots }
-        ensures narrow { self.now.spent ≡ false → AllNarrow self.now.problem (opening self.now.problem) self.now.pivots }
-        ensures failed { self.now.spent ≡ true → (row : ℕ) × (column : ℕ) × EndsWide self.now.problem self.now.pivots row column }
+        ensures narrow { self.now.spent ≡ false
+            → AllNarrow self.now.problem (opening self.now.problem) self.now.pivots }
+        ensures failed { self.now.spent ≡ true → (row : ℕ) × (column : ℕ)
+            × EndsWide self.now.problem self.now.pivots row column }
     {
         self.pivots.as_slice()
     }
@@ -186,7 +190,8 @@ impl<'p, 'a> Tableau<'p, 'a> {
         requires row_in { row ≤ cost_row self.old.problem }
         requires column_in { column < columns self.old.problem }
         requires nonzero { ((current self.old).place row column).num ≢ pos 0 }
-        ensures recorded { self.new ≡ record self.old { pivots = self.old.pivots ++ (row, column) ∷ []; spent = is_err result } }
+        ensures recorded { self.new
+            ≡ record self.old { pivots = self.old.pivots ++ (row, column) ∷ []; spent = is_err result } }
         ensures ok { OnOk result (IsNarrowPivot self.old.problem (current self.old) row column) }
         ensures number { IfErr result (λ w. w.pivot ≡ length self.old.pivots) }
         ensures first { IfErr result (λ w. FailsFirstAt self.old.problem (current self.old) row column w.row w.column) }

@@ -6,9 +6,12 @@ use Rattle.std.proofs.lemmas.Int.{ints}
 use Rattle.std.specs.Int.Signed.{≤ℤ_refl}
 use Rattle.bl_whole.specs.Sums.{component, sum_below, dot}
 use Rattle.bl_whole.proofs.Products.{*ℤ_assoc, +ℤ-*ℤ, mul_le_left, mul_le_left_neg, lt_of_mul_lt}
-use Rattle.bl_whole.proofs.SumLemmas.{sum_below-agree, sum_below-add, sum_below-scale, sum_below-exchange, sum_below_monotone}
+use Rattle.bl_whole.proofs.SumLemmas.{sum_below-agree, sum_below-add, sum_below-scale, sum_below-exchange}
+use Rattle.bl_whole.proofs.SumLemmas.{sum_below_monotone}
 use Rattle.bl_terms.specs.Points.{Area, IsArea, InArea}
-use Rattle.bl_terms.specs.Bounds.{Problem, linear_at, IsPoint, IsProblem, Multipliers, reduced_cost, least_product, least_term, rhs_sum, dual_bound, Proves, LeastProduct, WeakDuality, NoPoint, NoCutoffNoPoint, over, TreeOfProofs, TreeOfRefusals}
+use Rattle.bl_terms.specs.Bounds.{Problem, linear_at, IsPoint, IsProblem, Multipliers, reduced_cost, least_product}
+use Rattle.bl_terms.specs.Bounds.{least_term, rhs_sum, dual_bound, Proves, LeastProduct, WeakDuality, NoPoint}
+use Rattle.bl_terms.specs.Bounds.{NoCutoffNoPoint, over, TreeOfProofs, TreeOfRefusals}
 use Rattle.bl_terms.specs.Trees.{Anything}
 use Rattle.bl_terms.proofs.TreeLemmas.{tree_shows}
 

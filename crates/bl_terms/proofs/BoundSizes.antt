@@ -6,8 +6,10 @@ use Rattle.std.proofs.lemmas.Int.{ints}
 use Rattle.bl_whole.specs.Sums.{component, sum_below}
 use Rattle.bl_limits.specs.declared.TheConstants.{MAX_NUMBER, MAX_PROBLEM_COEFFICIENT, MAX_PROBLEM_RHS}
 use Rattle.bl_whole.specs.Within.{IsWithin}
-use Rattle.bl_whole.proofs.WithinLemmas.{within_from_bounds, within_more, within_sum, within_difference, within_product, within_sum_below, within_entry, within_from_fits, fits_from_within}
-use Rattle.bl_terms.specs.Bounds.{Problem, linear_at, Fits, Multipliers, AreMultipliers, reduced_cost, least_term, reduced_cost_size, BoundSumsFit}
+use Rattle.bl_whole.proofs.WithinLemmas.{within_from_bounds, within_more, within_sum, within_difference, within_product}
+use Rattle.bl_whole.proofs.WithinLemmas.{within_sum_below, within_entry, within_from_fits, fits_from_within}
+use Rattle.bl_terms.specs.Bounds.{Problem, linear_at, Fits, Multipliers, AreMultipliers, reduced_cost, least_term}
+use Rattle.bl_terms.specs.Bounds.{reduced_cost_size, BoundSumsFit}
 
 -- the multipliers are within 2^50, and 0 past the end
 mult_within : (w : Multipliers) → AreMultipliers w → (i : ℕ) → IsWithin (2 ^ 50) (component w.mult i)

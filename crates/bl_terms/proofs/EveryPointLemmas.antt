@@ -1,18 +1,24 @@
 -- The tests of `EveryPoint` decide the definitions.
-use Rattle.std.proofs.Common.{◌≡◌, ℕ, zero, suc, ◌<◌, refl, sym, ◌∙◌, ap, subst, arith, Bool, true, false, not, cond, ◌&&◌, ◌||◌, List, [], ◌∷◌, length, ◌⊎◌, inl, inr}
+use Rattle.std.proofs.Common.{◌≡◌, ℕ, zero, suc, ◌<◌, refl, sym, ◌∙◌, ap, subst, arith, Bool, true, false, not, cond}
+use Rattle.std.proofs.Common.{◌&&◌, ◌||◌, List, [], ◌∷◌, length, ◌⊎◌, inl, inr}
 use Rattle.std.specs.Prelude.{ℤ, pos, ◌+ℤ◌, ◌-ℤ◌, ◌*ℤ◌, ◌≤ℤ◌, ◌<ℤ◌, int_le, int_lt, nat_eq, unsigned_abs, IsTrue}
 use Rattle.std.specs.Bool.{Decides}
 use Rattle.std.specs.Ordering.{int_eq}
 use Rattle.std.proofs.lemmas.Int.{ints, by_lt_z}
 use Rattle.std.proofs.lemmas.Bool.{cases_Bool, cases_lt, true≢false}
-use Rattle.std.proofs.lemmas.Bool.Decides.{Decides-eqb, Decides-int_eq, Decides-and, Decides-or, Decides-not, Decides-like}
+use Rattle.std.proofs.lemmas.Bool.Decides.{Decides-eqb, Decides-int_eq, Decides-and, Decides-or, Decides-not}
+use Rattle.std.proofs.lemmas.Bool.Decides.{Decides-like}
 use Rattle.std.proofs.lemmas.List.{ext_get_or}
 use Rattle.bl_whole.specs.Sums.{component, dot}
 use Rattle.bl_terms.specs.Points.{Meets, is_among}
-use Rattle.bl_terms.specs.Programs.{Program, columns, row_at, inequality, InBox, MeetsRows, MeetsLowerRows, IsLeader, SameLead, cost_at, value_at, follower_at}
+use Rattle.bl_terms.specs.Programs.{Program, columns, row_at, inequality, InBox, MeetsRows, MeetsLowerRows, IsLeader}
+use Rattle.bl_terms.specs.Programs.{SameLead, cost_at, value_at, follower_at}
 use Rattle.bl_terms.specs.Feasible.{BilevelFeasible, Optimal, IsOnlyOptimum, Infeasible}
-use Rattle.bl_terms.specs.EveryPoint.{all_numbers, all_below, count_between, all_points, all_of_box, is_in, meets_row, meets_rows, meets_lower, low_from, high_from, is_feasible, is_optimal, is_only_optimum, is_infeasible, TestsDecide}
-use Rattle.bl_terms.proofs.TestLemmas.{Decides-int_le, Decides-int_lt, Decides-implies, Decides-self, and_true, pos-unsigned_abs}
+use Rattle.bl_terms.specs.EveryPoint.{all_numbers, all_below, count_between, all_points, all_of_box, is_in, meets_row}
+use Rattle.bl_terms.specs.EveryPoint.{meets_rows, meets_lower, low_from, high_from, is_feasible, is_optimal}
+use Rattle.bl_terms.specs.EveryPoint.{is_only_optimum, is_infeasible, TestsDecide}
+use Rattle.bl_terms.proofs.TestLemmas.{Decides-int_le, Decides-int_lt, Decides-implies, Decides-self, and_true}
+use Rattle.bl_terms.proofs.TestLemmas.{pos-unsigned_abs}
 use Rattle.bl_terms.proofs.PlaceLemmas.{among_from_Contains, Contains-from_among}
 
 pub all_below_decides : (n : ℕ) (test : ℕ → Bool) (P : ℕ → Type 0) → ((k : ℕ) → k < n → Decides (test k) (P k))

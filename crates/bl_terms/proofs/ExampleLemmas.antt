@@ -16,7 +16,11 @@ use Rattle.bl_terms.specs.Trees.{low_half, high_half}
 use Rattle.bl_terms.specs.Bounds.{IsProblem, relaxation, Multipliers, Proves, target_of, dual_bound, linear_at}
 use Rattle.bl_terms.specs.FollowerProofs.{ProvesBest, ClosesFollower, follower_box, follower_problem}
 use Rattle.bl_terms.specs.EveryPoint.{is_feasible, all_below}
-use Rattle.bl_terms.specs.Examples.{moore_bard, greatest_answer, least_answer, leader_maximises, leader_chooses, leader_refuses, no_follower, one_point, half_row, one_cut, one, two, three, MooreBardFacts, SenseFacts, LeaderSenseFacts, ChoiceFacts, RefusalFacts, OneLevelFacts, WholeFacts, SplitFacts, ProgramFacts, BoundFacts, EntryFacts, weights, four, tree_at_two, tree_at_zero, tree_at_nine, WorkedExamples}
+use Rattle.bl_terms.specs.Examples.{moore_bard, greatest_answer, least_answer, leader_maximises, leader_chooses}
+use Rattle.bl_terms.specs.Examples.{leader_refuses, no_follower, one_point, half_row, one_cut, one, two, three}
+use Rattle.bl_terms.specs.Examples.{MooreBardFacts, SenseFacts, LeaderSenseFacts, ChoiceFacts, RefusalFacts}
+use Rattle.bl_terms.specs.Examples.{OneLevelFacts, WholeFacts, SplitFacts, ProgramFacts, BoundFacts, EntryFacts}
+use Rattle.bl_terms.specs.Examples.{weights, four, tree_at_two, tree_at_zero, tree_at_nine, WorkedExamples}
 use Rattle.bl_terms.proofs.BoundLemmas.{weak_duality}
 use Rattle.bl_terms.proofs.FollowerProofLemmas.{follower_proof_law}
 use Rattle.bl_terms.proofs.ExampleTests.{program_from_tests, limits_from_tests, proves_from_tests}

@@ -1,6 +1,7 @@
 -- What tests on an example show: that it is a program, that it keeps the limits, and that multipliers are proofs.
 use Rattle.std.proofs.Common.{◌≡◌, ℕ, ◌+◌, ◌<◌, subst, arith, Bool, true, false, ◌&&◌, ◌||◌, List, length}
-use Rattle.std.specs.Prelude.{ℤ, pos, ◌≤ℤ◌, ◌<ℤ◌, nat_eq, nat_le, nat_lt, int_le, slice_index, unsigned_abs, Option, None}
+use Rattle.std.specs.Prelude.{ℤ, pos, ◌≤ℤ◌, ◌<ℤ◌, nat_eq, nat_le, nat_lt, int_le, slice_index, unsigned_abs, Option}
+use Rattle.std.specs.Prelude.{None}
 use Rattle.std.specs.Ordering.{int_eq}
 use Rattle.std.proofs.lemmas.Bool.{true≢false, false_from_ne_true}
 use Rattle.std.proofs.lemmas.Bool.Decides.{nat_tests, Decides-int_eq}

@@ -1,5 +1,6 @@
 -- A follower proof implies a true entry.
-use Rattle.std.proofs.Common.{◌≡◌, ℕ, zero, suc, ◌<◌, refl, sym, ◌∙◌, arith, Bool, true, false, cond, List, [], ◌∷◌, length}
+use Rattle.std.proofs.Common.{◌≡◌, ℕ, zero, suc, ◌<◌, refl, sym, ◌∙◌, arith, Bool, true, false, cond, List, [], ◌∷◌}
+use Rattle.std.proofs.Common.{length}
 use Rattle.std.specs.Prelude.{ℤ, ◌≤ℤ◌, Some, None, slice_index, IsTrue}
 use Rattle.std.proofs.lemmas.Int.{ints}
 use Rattle.std.proofs.lemmas.List.{length-map}
@@ -9,7 +10,8 @@ use Rattle.bl_terms.specs.Points.{Area, IsArea, InArea, Linear, Meets, values_at
 use Rattle.bl_terms.specs.Programs.{Program, Row, row_at, IsProgram}
 use Rattle.bl_terms.specs.Responses.{IsResponse, response_cost, Best, NoResponse}
 use Rattle.bl_terms.specs.Bounds.{linear_at, IsPoint, IsProblem, Proves}
-use Rattle.bl_terms.specs.FollowerProofs.{follower_row, follower_rows, follower_box, follower_problem, FollowerProofLaw, FollowerPoints}
+use Rattle.bl_terms.specs.FollowerProofs.{follower_row, follower_rows, follower_box, follower_problem, FollowerProofLaw}
+use Rattle.bl_terms.specs.FollowerProofs.{FollowerPoints}
 use Rattle.bl_terms.proofs.PlaceLemmas.{Contains-at, values_at-entry}
 use Rattle.bl_terms.specs.Trees.{Anything}
 use Rattle.bl_terms.proofs.TreeLemmas.{tree_shows}

@@ -1,13 +1,16 @@
 -- Lists of places: membership as a test, values at places, and values put at places.
-use Rattle.std.proofs.Common.{◌≡◌, ◌≢◌, ℕ, zero, suc, ◌<◌, refl, sym, ◌∙◌, ap, subst, arith, Bool, true, false, ◌||◌, cond, List, [], ◌∷◌, length, ◌⊎◌, inl, inr}
+use Rattle.std.proofs.Common.{◌≡◌, ◌≢◌, ℕ, zero, suc, ◌<◌, refl, sym, ◌∙◌, ap, subst, arith, Bool, true, false, ◌||◌}
+use Rattle.std.proofs.Common.{cond, List, [], ◌∷◌, length, ◌⊎◌, inl, inr}
 use Rattle.std.specs.Prelude.{ℤ, pos, ◌+ℤ◌, ◌*ℤ◌, nat_eq, slice_index, slice_set, Contains}
 use Rattle.std.proofs.lemmas.Bool.{eqb-true, cases_Bool}
 use Rattle.std.proofs.lemmas.Bool.Decides.{nat_tests}
-use Rattle.std.proofs.lemmas.List.{length-map, get_or-map, get_or-set_same, get_or-set_other, length-set, get_or_default}
+use Rattle.std.proofs.lemmas.List.{length-map, get_or-map, get_or-set_same, get_or-set_other, length-set}
+use Rattle.std.proofs.lemmas.List.{get_or_default}
 use Rattle.std.specs.List.Sorted.{IsStrictlyIncreasing}
 use Rattle.std.proofs.lemmas.Int.{ints}
 use Rattle.bl_whole.specs.Sums.{component, sum_below, sum_over, dot}
-use Rattle.bl_whole.proofs.SumLemmas.{sum_below-agree, sum_below-add, sum_below_picked, Contains-here, Contains-there, Contains-cases}
+use Rattle.bl_whole.proofs.SumLemmas.{sum_below-agree, sum_below-add, sum_below_picked, Contains-here, Contains-there}
+use Rattle.bl_whole.proofs.SumLemmas.{Contains-cases}
 use Rattle.bl_terms.specs.Points.{values_at, is_among}
 
 pub among_from_Contains : (k : ℕ) (ks : List ℕ) → Contains ks k → is_among k ks ≡ true

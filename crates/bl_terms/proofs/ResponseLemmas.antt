@@ -1,5 +1,6 @@
 -- Points against responses, and the laws of true entries.
-use Rattle.std.proofs.Common.{◌≡◌, ◌≢◌, ℕ, zero, suc, ◌<◌, refl, sym, ◌∙◌, ap, subst, arith, List, length, ◌⊎◌, inl, inr}
+use Rattle.std.proofs.Common.{◌≡◌, ◌≢◌, ℕ, zero, suc, ◌<◌, refl, sym, ◌∙◌, ap, subst, arith, List, length, ◌⊎◌, inl}
+use Rattle.std.proofs.Common.{inr}
 use Rattle.std.specs.Prelude.{ℤ, pos, negsuc, ◌+ℤ◌, ◌*ℤ◌, ◌≤ℤ◌, slice_index, Contains, IsTrue}
 use Rattle.std.proofs.Math.IntN.{zero-*ℤ}
 use Rattle.std.proofs.lemmas.Int.{ints}
@@ -7,10 +8,13 @@ use Rattle.std.proofs.lemmas.List.{length-map, ext_get_or}
 use Rattle.bl_whole.specs.Sums.{component, sum_over, dot}
 use Rattle.bl_whole.proofs.SumLemmas.{sum_below_picked, rising_pairs}
 use Rattle.bl_terms.specs.Points.{values_at}
-use Rattle.bl_terms.specs.Programs.{Program, columns, row_at, InBox, MeetsRows, MeetsLowerRows, IsLeader, IsProgram, SameLead, link_of, response_of, follower_at}
+use Rattle.bl_terms.specs.Programs.{Program, columns, row_at, InBox, MeetsRows, MeetsLowerRows, IsLeader, IsProgram}
+use Rattle.bl_terms.specs.Programs.{SameLead, link_of, response_of, follower_at}
 use Rattle.bl_terms.specs.Feasible.{BilevelFeasible}
-use Rattle.bl_terms.specs.Responses.{InRanges, lhs_of, IsResponse, response_cost, IsBest, IsFollowerOptimum, OptimumOfLink, EntryIsOptimum, NoResponseNoPoint, EntryLaw}
-use Rattle.bl_terms.proofs.PlaceLemmas.{values_at-entry, cases_Contains, Contains-at, place_of, dot-values_at, put_at, length-put_at, put_at-other, put_at-same, sum_below_two}
+use Rattle.bl_terms.specs.Responses.{InRanges, lhs_of, IsResponse, response_cost, IsBest, IsFollowerOptimum}
+use Rattle.bl_terms.specs.Responses.{OptimumOfLink, EntryIsOptimum, NoResponseNoPoint, EntryLaw}
+use Rattle.bl_terms.proofs.PlaceLemmas.{values_at-entry, cases_Contains, Contains-at, place_of, dot-values_at, put_at}
+use Rattle.bl_terms.proofs.PlaceLemmas.{length-put_at, put_at-other, put_at-same, sum_below_two}
 
 -- a linking column is the leader's, and no column of the follower
 link_leads : (p : Program) → IsProgram p → (k : ℕ) → Contains p.links k → IsLeader p k

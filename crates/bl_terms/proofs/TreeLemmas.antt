@@ -1,5 +1,6 @@
 -- Trees over boxes: their leaves share out the points of the box.
-use Rattle.std.proofs.Common.{◌≡◌, ◌≢◌, ℕ, zero, suc, ◌+◌, ◌*◌, ◌<◌, ◌≤◌, refl, sym, ◌∙◌, subst, arith, Bool, true, false, ◌&&◌, List, [], ◌∷◌, length, ◌⊎◌, inl, inr}
+use Rattle.std.proofs.Common.{◌≡◌, ◌≢◌, ℕ, zero, suc, ◌+◌, ◌*◌, ◌<◌, ◌≤◌, refl, sym, ◌∙◌, subst, arith, Bool, true}
+use Rattle.std.proofs.Common.{false, ◌&&◌, List, [], ◌∷◌, length, ◌⊎◌, inl, inr}
 use Rattle.std.specs.Prelude.{ℤ, pos, ◌+ℤ◌, ◌-ℤ◌, ◌≤ℤ◌, ◌<ℤ◌, slice_set, nat_lt, int_le, int_lt, IsTrue}
 use Rattle.std.proofs.lemmas.Int.{ints, by_lt_z}
 use Rattle.std.specs.Bool.{Decides}
@@ -12,7 +13,9 @@ use Rattle.bl_whole.specs.Sums.{component}
 use Rattle.bl_terms.proofs.TestLemmas.{pos-unsigned_abs, Decides-self, Decides-int_le, Decides-int_lt}
 use Rattle.bl_terms.proofs.PointLemmas.{part_of_itself, part_of_part}
 use Rattle.bl_terms.specs.Points.{Area, IsArea, InArea, IsWithinArea}
-use Rattle.bl_terms.specs.Trees.{Node, Leaf, Split, Anything, low_half, high_half, CanSplit, Covers, FailsFirst, CoversOrFails, leaf_boxes, area_at, product_below, width_at, point_count, EachPointInOneLeaf, LeavesAreParts, LeavesAtMostPoints}
+use Rattle.bl_terms.specs.Trees.{Node, Leaf, Split, Anything, low_half, high_half, CanSplit, Covers, FailsFirst}
+use Rattle.bl_terms.specs.Trees.{CoversOrFails, leaf_boxes, area_at, product_below, width_at, point_count}
+use Rattle.bl_terms.specs.Trees.{EachPointInOneLeaf, LeavesAreParts, LeavesAtMostPoints}
 
 -- ---- the halves of a box
 

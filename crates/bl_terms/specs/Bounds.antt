@@ -1,11 +1,13 @@
 -- Trusted. Proofs that the points of a box cost at least so much, or that no point of it meets the rows: weak duality
 -- of linear programs with
 -- bounded columns, and Farkas (1902) where the cost has no weight.
-use Rattle.std.specs.Prelude.{ℕ, ℤ, pos, ◌≡◌, ◌^◌, ◌<◌, ◌≤◌, ◌+ℤ◌, ◌-ℤ◌, ◌*ℤ◌, ◌≤ℤ◌, ◌<ℤ◌, List, [], ◌∷◌, length, map, slice_index_or, Option, Some, None, if◌then◌else◌, int_lt, ◌+◌, ◌*◌, FitsSigned}
+use Rattle.std.specs.Prelude.{ℕ, ℤ, pos, ◌≡◌, ◌^◌, ◌<◌, ◌≤◌, ◌+ℤ◌, ◌-ℤ◌, ◌*ℤ◌, ◌≤ℤ◌, ◌<ℤ◌, List, [], ◌∷◌, length, map}
+use Rattle.std.specs.Prelude.{slice_index_or, Option, Some, None, if◌then◌else◌, int_lt, ◌+◌, ◌*◌, FitsSigned}
 use Rattle.std.specs.Int.{w64, w128}
 use Rattle.bl_whole.specs.Sums.{component, sum_below, dot}
 use Rattle.bl_whole.specs.Within.{IsWithin, AreWithin}
-use Rattle.bl_limits.specs.declared.TheConstants.{MAX_COLUMNS, MAX_PROBLEM_ROWS, MAX_PROBLEM_COEFFICIENT, MAX_PROBLEM_RHS, MAX_NUMBER, MAX_PROOF_NUMBER}
+use Rattle.bl_limits.specs.declared.TheConstants.{MAX_COLUMNS, MAX_PROBLEM_ROWS, MAX_PROBLEM_COEFFICIENT}
+use Rattle.bl_limits.specs.declared.TheConstants.{MAX_PROBLEM_RHS, MAX_NUMBER, MAX_PROOF_NUMBER}
 use Rattle.bl_terms.specs.Points.{Area, IsArea, InArea, Linear, Meets}
 use Rattle.bl_terms.specs.Programs.{Program, inequality, root}
 use Rattle.bl_terms.specs.Trees.{BareNode, Anything, Covers}

@@ -43,4 +43,5 @@ module _ {S L : Type 0} where
 
   abbrev pub node_code : Coded S → Coded L → Coded (Node S L)
   node_code s l =
-      code_by (L ⊎ (ℕ × (ℤ × S))) (coded⊎ l (coded× coded_ℕ (coded× coded_ℤ s))) node_parts node_of_parts node_from_parts
+      code_by (L ⊎ (ℕ × (ℤ × S))) (coded⊎ l (coded× coded_ℕ (coded× coded_ℤ s)))
+      node_parts node_of_parts node_from_parts

@@ -3,7 +3,8 @@
 use Rattle.std.specs.Prelude.{ℕ, ℤ, pos, negsuc, ◌≡◌, ◌≤ℤ◌, true, false, Some, List, [], ◌∷◌}
 use Rattle.bl_whole.specs.Sums.{dot}
 use Rattle.bl_terms.specs.Points.{Area}
-use Rattle.bl_terms.specs.Programs.{Program, Row, IsProgram, KeepsLimits, MeetsRows, MeetsLowerRows, cost_at, follower_at}
+use Rattle.bl_terms.specs.Programs.{Program, Row, IsProgram, KeepsLimits, MeetsRows, MeetsLowerRows, cost_at}
+use Rattle.bl_terms.specs.Programs.{follower_at}
 use Rattle.bl_terms.specs.Feasible.{BilevelFeasible, Optimal, IsOnlyOptimum, Infeasible}
 use Rattle.bl_terms.specs.Responses.{Best, NoResponse, IsTrueEntry, IsFollowerOptimum}
 use Rattle.bl_terms.specs.Bounds.{IsProblem, IsPoint, relaxation, Multipliers, Proves}

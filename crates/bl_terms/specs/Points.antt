@@ -1,5 +1,6 @@
 -- Trusted. Points and boxes: a point is a list of whole numbers, one for each column of an integer program.
-use Rattle.std.specs.Prelude.{ℕ, zero, suc, ℤ, pos, Bool, false, ◌||◌, [], ◌∷◌, nat_eq, ◌≡◌, ◌<◌, ◌≤ℤ◌, List, length, map, refl}
+use Rattle.std.specs.Prelude.{ℕ, zero, suc, ℤ, pos, Bool, false, ◌||◌, [], ◌∷◌, nat_eq, ◌≡◌, ◌<◌, ◌≤ℤ◌, List, length}
+use Rattle.std.specs.Prelude.{map, refl}
 use Rattle.std.specs.Coded.{Coded, code_by, coded×, coded_list, coded_ℤ}
 use Rattle.bl_whole.specs.Sums.{component, dot}
 

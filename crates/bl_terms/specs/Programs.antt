@@ -1,6 +1,8 @@
 -- Trusted. Bilevel integer programs with bounded columns, after Moore and Bard (1990) and Tahernejad, Ralphs and
 -- DeNegre (2020).
-use Rattle.std.specs.Prelude.{ℕ, zero, suc, ℤ, Bool, false, not, ◌&&◌, ◌||◌, if◌then◌else◌, ◌++◌, ◌∷◌, ◌*ℤ◌, pos, negsuc, ◌≡◌, ◌≢◌, ◌<◌, ◌≤◌, ◌⊎◌, ◌↔◌, List, [], length, slice_index_or, Contains, IsTrue, refl}
+use Rattle.std.specs.Prelude.{ℕ, zero, suc, ℤ, Bool, false, not, ◌&&◌, ◌||◌, if◌then◌else◌, ◌++◌, ◌∷◌, ◌*ℤ◌, pos}
+use Rattle.std.specs.Prelude.{negsuc, ◌≡◌, ◌≢◌, ◌<◌, ◌≤◌, ◌⊎◌, ◌↔◌, List, [], length, slice_index_or, Contains, IsTrue}
+use Rattle.std.specs.Prelude.{refl}
 use Rattle.std.specs.List.Sorted.{IsStrictlyIncreasing}
 use Rattle.std.specs.Ordering.{int_eq}
 use Rattle.std.specs.Coded.{Coded, code_by, coded×, coded_list, coded_ℤ, coded_ℕ, coded_bool}

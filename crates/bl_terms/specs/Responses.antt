@@ -4,7 +4,8 @@
 use Rattle.std.specs.Prelude.{ℕ, ℤ, ◌≡◌, ◌<◌, ◌+ℤ◌, ◌≤ℤ◌, ◌↔◌, List, length, slice_index, IsTrue}
 use Rattle.bl_whole.specs.Sums.{component, dot}
 use Rattle.bl_terms.specs.Points.{values_at}
-use Rattle.bl_terms.specs.Programs.{Program, IsProgram, Row, row_at, InBox, MeetsRows, MeetsLowerRows, SameLead, link_of, follower_at}
+use Rattle.bl_terms.specs.Programs.{Program, IsProgram, Row, row_at, InBox, MeetsRows, MeetsLowerRows, SameLead}
+use Rattle.bl_terms.specs.Programs.{link_of, follower_at}
 use Rattle.bl_terms.specs.Feasible.{BilevelFeasible}
 
 -- xs has one number for each of the columns in ks, in its range

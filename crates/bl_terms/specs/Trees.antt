@@ -1,7 +1,8 @@
 -- Trusted. Branch-and-bound trees that split a box (Land and Doig 1960), generic in what a split and a leaf hand in:
 -- lists of nodes
 -- in preorder over a stack of the boxes that are still to be closed.
-use Rattle.std.specs.Prelude.{ℕ, ℤ, pos, ◌≡◌, ◌+◌, ◌*◌, ◌<◌, ◌≤◌, ◌+ℤ◌, ◌-ℤ◌, ◌≤ℤ◌, ◌<ℤ◌, zero, suc, Bool, IsTrue, ◌⊎◌, List, [], ◌∷◌, length, slice_set, slice_index_or, unsigned_abs}
+use Rattle.std.specs.Prelude.{ℕ, ℤ, pos, ◌≡◌, ◌+◌, ◌*◌, ◌<◌, ◌≤◌, ◌+ℤ◌, ◌-ℤ◌, ◌≤ℤ◌, ◌<ℤ◌, zero, suc, Bool, IsTrue, ◌⊎◌}
+use Rattle.std.specs.Prelude.{List, [], ◌∷◌, length, slice_set, slice_index_or, unsigned_abs}
 use Rattle.bl_whole.specs.Sums.{component}
 use Rattle.bl_terms.specs.Points.{Area, IsArea, InArea, IsWithinArea}
 

@@ -1,6 +1,7 @@
 //! Laws of bound proofs.
 
-ghost use Rattle.bl_terms.specs.Bounds.{BoundSumsFit, LeastProduct, NoCutoffNoPoint, NoPoint, TreeOfProofs, TreeOfRefusals, WeakDuality};
+ghost use Rattle.bl_terms.specs.Bounds.{BoundSumsFit, LeastProduct, NoCutoffNoPoint, NoPoint, TreeOfProofs};
+ghost use Rattle.bl_terms.specs.Bounds.{TreeOfRefusals, WeakDuality};
 
 /// The least product of a range is the least.
 pub fn least_product_is_least()

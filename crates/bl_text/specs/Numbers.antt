@@ -1,5 +1,6 @@
 -- The spelling of whole numbers.
-use Rattle.std.specs.Prelude.{ℕ, ℤ, pos, neg_ℤ, List, ◌&&◌, Option, Some, None, option_map, nat_lt, nat_le, length, drop, if◌then◌else◌}
+use Rattle.std.specs.Prelude.{ℕ, ℤ, pos, neg_ℤ, List, ◌&&◌, Option, Some, None, option_map, nat_lt, nat_le, length}
+use Rattle.std.specs.Prelude.{drop, if◌then◌else◌}
 use Rattle.std.specs.Char.{is_ascii_digit}
 use Rattle.std.specs.List.{list_all}
 use Rattle.std.specs.Str.Parse.{digits_value, starts_with_minus}

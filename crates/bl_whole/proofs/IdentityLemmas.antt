@@ -5,7 +5,9 @@ use Rattle.std.proofs.Math.IntN.{zero-*ℤ, *ℤ-zero, *ℤ_comm}
 use Rattle.std.proofs.lemmas.Int.{ints}
 use Rattle.std.proofs.lemmas.Bool.{eqb-true}
 use Rattle.bl_whole.specs.Sums.{component}
-use Rattle.bl_whole.specs.Identities.{Polynomial, variable, constant, plus, minus, times, value, Monomial, same_factors, comes_before, with_factor, with_factors, is_zero, in_front, with_monomial, monomial_sum, multiples, monomial_product, normal_form}
+use Rattle.bl_whole.specs.Identities.{Polynomial, variable, constant, plus, minus, times, value, Monomial, same_factors}
+use Rattle.bl_whole.specs.Identities.{comes_before, with_factor, with_factors, is_zero, in_front, with_monomial}
+use Rattle.bl_whole.specs.Identities.{monomial_sum, multiples, monomial_product, normal_form}
 use Rattle.bl_whole.proofs.Products.{*ℤ-+ℤ, +ℤ-*ℤ, *ℤ_assoc, neg_ℤ-*ℤ, one-*ℤ, *ℤ_one}
 
 -- the product of the factors

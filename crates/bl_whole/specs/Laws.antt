@@ -1,5 +1,6 @@
 -- The laws of sums, products and sizes that std lacks.
-use Rattle.std.specs.Prelude.{ℕ, ℤ, pos, ◌≡◌, ◌+◌, ◌*◌, ◌^◌, ◌<◌, ◌+ℤ◌, ◌-ℤ◌, ◌*ℤ◌, neg_ℤ, ◌≤ℤ◌, ◌<ℤ◌, List, length, Contains, FitsSigned}
+use Rattle.std.specs.Prelude.{ℕ, ℤ, pos, ◌≡◌, ◌+◌, ◌*◌, ◌^◌, ◌<◌, ◌+ℤ◌, ◌-ℤ◌, ◌*ℤ◌, neg_ℤ, ◌≤ℤ◌, ◌<ℤ◌, List, length}
+use Rattle.std.specs.Prelude.{Contains, FitsSigned}
 use Rattle.std.specs.Int.{Width}
 use Rattle.std.specs.List.Sorted.{IsStrictlyIncreasing}
 use mir.Val.{hbits}

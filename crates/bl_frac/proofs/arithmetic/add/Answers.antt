@@ -6,7 +6,8 @@ use Rattle.bl_simplex.specs.Gcd.{gcd}
 use Rattle.bl_simplex.specs.Fractions.{Fraction, narrow, sum_left, sum_top, sum_bottom}
 use Rattle.bl_frac.proofs.Signed.{landed, narrow_from_test}
 use Rattle.bl_frac.proofs.LowestTerms.{parts_of_sum, IsReduced-lowest, sum_bottom_positive, stored}
-use Rattle.bl_frac.proofs.Terms.{term, denominator, wide_answer, sum_of-wide_left, sum_of-wide_right, sum_of-wide_top, sum_of-wide_bottom, sum_of-narrow}
+use Rattle.bl_frac.proofs.Terms.{term, denominator, wide_answer, sum_of-wide_left, sum_of-wide_right, sum_of-wide_top}
+use Rattle.bl_frac.proofs.Terms.{sum_of-wide_bottom, sum_of-narrow}
 use Rattle.bl_frac.proofs.arithmetic.add.Goals as goal
 
 pub returns-in_err-left : goal.returns-in_err-left

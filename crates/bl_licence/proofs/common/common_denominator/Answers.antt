@@ -2,7 +2,8 @@ use Rattle.std.proofs.Common.{◌≡◌, ℕ, ◌+◌, ◌<◌, ◌≤◌, lengt
 use Rattle.std.proofs.lemmas.List.{get_or_read}
 use Rattle.bl_simplex.specs.Fractions.{Fraction, whole_fraction}
 use Rattle.bl_simplex.specs.Rationals.{fraction_at}
-use Rattle.bl_licence.proofs.Multiples.{common_passes, common_next, dens_positive, den_read, lcm_positive_at, zero_fraction}
+use Rattle.bl_licence.proofs.Multiples.{common_passes, common_next, dens_positive, den_read, lcm_positive_at}
+use Rattle.bl_licence.proofs.Multiples.{zero_fraction}
 use Rattle.bl_licence.proofs.common.common_denominator.Goals as goal
 use Rattle.bl_licence.proofs.common.common_denominator.Goals.{After-unsigned_abs}
 

@@ -1,4 +1,5 @@
-use Rattle.std.proofs.Common.{rules, ◌≡◌, ℕ, ◌+◌, ◌<◌, pos, ◌-ℤ◌, to_z, of_z, FitsSigned, sym, ap, ◌∙◌, subst, below_more}
+use Rattle.std.proofs.Common.{rules, ◌≡◌, ℕ, ◌+◌, ◌<◌, pos, ◌-ℤ◌, to_z, of_z, FitsSigned, sym, ap, ◌∙◌, subst}
+use Rattle.std.proofs.Common.{below_more}
 use Rattle.std.specs.Prelude.{slice_index_or}
 use Rattle.std.specs.Int.{w64}
 use Rattle.std.proofs.lemmas.Int.{to_z-of_z}

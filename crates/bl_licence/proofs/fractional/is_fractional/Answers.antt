@@ -2,7 +2,8 @@ use Rattle.std.proofs.Common.{rules, ◌≡◌, ℕ, ◌^◌, ◌<◌, ◌≤◌
 use Rattle.std.specs.Prelude.{IsTrue, true, false}
 use Rattle.std.proofs.lemmas.Bool.{false≢true}
 use Rattle.bl_simplex.specs.Dictionaries.{columns}
-use Rattle.bl_licence.proofs.Points.{Setting, divides_each, fractional_from_test, rows_to_test, cost_to_test, RowsPass, CostPasses}
+use Rattle.bl_licence.proofs.Points.{Setting, divides_each, fractional_from_test, rows_to_test, cost_to_test, RowsPass}
+use Rattle.bl_licence.proofs.Points.{CostPasses}
 use Rattle.bl_licence.proofs.fractional.is_fractional.Goals as goal
 
 pub scaled_point-requires-clause-multiple : goal.scaled_point-requires-clause-multiple

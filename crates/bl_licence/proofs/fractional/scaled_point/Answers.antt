@@ -1,4 +1,5 @@
-use Rattle.std.proofs.Common.{rules, ◌≡◌, ◌≤ℤ◌, ◌+◌, ◌<◌, ◌≤◌, Bool, true, false, cond, pos, length, ℤ, ◌-ℤ◌, to_z, of_z, FitsSigned, ◌∙◌, sym, ap, subst, arith}
+use Rattle.std.proofs.Common.{rules, ◌≡◌, ◌≤ℤ◌, ◌+◌, ◌<◌, ◌≤◌, Bool, true, false, cond, pos, length, ℤ, ◌-ℤ◌, to_z}
+use Rattle.std.proofs.Common.{of_z, FitsSigned, ◌∙◌, sym, ap, subst, arith}
 use Rattle.std.specs.Prelude.{slice_index_or, ◌+ℤ◌, ◌*ℤ◌, int_lt}
 use Rattle.std.specs.Int.{w64, w128, ◌∣◌}
 use Rattle.std.proofs.lemmas.Int.{ints, to_z-of_z}

@@ -2,7 +2,6 @@ use Rattle.std.proofs.Common.{ℕ, sym, ap, ◌∙◌, ◌-◌, arith, length, i
 use Rattle.bl_text.proofs.Digits.{AllDigits-take}
 use Rattle.bl_num.proofs.Moves.{AreCut, lowered-zeros, lowered-rest}
 use Rattle.bl_num.proofs.magnitude.lowered_magnitude.Goals as goal
-use Rattle.bl_num.proofs.magnitude.lowered_magnitude.Goals.{then-not-are_zeros-via-then-not-are_zeros, then-not-are_zeros-via-else-not-are_zeros+then-not-are_zeros-2}
 
 pub returns-then-not-are_zeros : goal.returns-then-not-are_zeros
 returns-then-not-are_zeros c =
@@ -12,8 +11,8 @@ returns-then-not-are_zeros c =
     lowered-rest c.args.whole.now c.args.fraction.now _ _ _ _ _ c.requires.whole c.requires.fraction
     (omega arith) c.number_after-power.ensures c.min-moved.ensures cut
     (elim c.then-not-are_zeros.branch [
-      | then-not-are_zeros-via-then-not-are_zeros w ↦ inl (sym c.are_zeros.ensures ∙ w.if-not-are_zeros.true)
-      | then-not-are_zeros-via-else-not-are_zeros+then-not-are_zeros-2 w ↦
+      | goal.then-not-are_zeros-via-then-not-are_zeros w ↦ inl (sym c.are_zeros.ensures ∙ w.if-not-are_zeros.true)
+      | goal.then-not-are_zeros-via-else-not-are_zeros+then-not-are_zeros-2 w ↦
           inr (sym w.are_zeros-else-not-are_zeros.ensures ∙ w.if-not-are_zeros-2.true)
     ])
 

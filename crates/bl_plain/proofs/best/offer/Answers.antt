@@ -7,7 +7,8 @@ use Rattle.bl_plain.specs.Walk.{Best, AnswersAt}
 use Rattle.bl_plain.proofs.BestLemmas.{offer-none, offer-dear, offer-taken}
 use Rattle.bl_plain.proofs.WalkLemmas.{Varies-nothing}
 use Rattle.bl_plain.proofs.best.offer.Goals as goal
-use Rattle.bl_plain.proofs.best.offer.Goals.{else-follower_of-least-via-then-follower_of-least+else-meets_rows, else-follower_of-least-via-else-follower_of-least}
+use Rattle.bl_plain.proofs.best.offer.Goals.{else-follower_of-least-via-then-follower_of-least+else-meets_rows}
+use Rattle.bl_plain.proofs.best.offer.Goals.{else-follower_of-least-via-else-follower_of-least}
 
 pub returns-then-is_below-clause-best : goal.returns-then-is_below-clause-best
 returns-then-is_below-clause-best c =

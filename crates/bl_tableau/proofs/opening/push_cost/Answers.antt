@@ -5,7 +5,8 @@ use Rattle.bl_whole.specs.Within.{PartialDotsFit}
 use Rattle.bl_simplex.specs.Dictionaries.{columns, cost_row, opening_number}
 use Rattle.bl_simplex.specs.Fractions.{whole_fraction}
 use Rattle.bl_tableau.specs.Opening.{Appends}
-use Rattle.bl_tableau.proofs.OpeningSteps.{appends_one, cost_number, dot_starts, starts_fit, right_of_cost, dot_within, read128, costs_within}
+use Rattle.bl_tableau.proofs.OpeningSteps.{appends_one, cost_number, dot_starts, starts_fit, right_of_cost, dot_within}
+use Rattle.bl_tableau.proofs.OpeningSteps.{read128, costs_within}
 use Rattle.bl_tableau.proofs.opening.push_cost.Goals as goal
 
 pub loop-number-preserved : goal.loop-number-preserved

@@ -1,11 +1,13 @@
-use Rattle.std.proofs.Common.{rules, ◌≡◌, ◌<◌, ◌^◌, List, length, ℤ, pos, ◌-ℤ◌, to_z, of_z, unsigned_abs, sym, ap, ◌∙◌, subst, arith}
+use Rattle.std.proofs.Common.{rules, ◌≡◌, ◌<◌, ◌^◌, List, length, ℤ, pos, ◌-ℤ◌, to_z, of_z, unsigned_abs, sym, ap, ◌∙◌}
+use Rattle.std.proofs.Common.{subst, arith}
 use Rattle.std.specs.Int.{w128}
 use Rattle.bl_whole.specs.Within.{PartialDotsFit}
 use Rattle.bl_terms.specs.Bounds.{linear_at}
 use Rattle.bl_simplex.specs.Dictionaries.{columns, opening_number}
 use Rattle.bl_simplex.specs.Fractions.{whole_fraction}
 use Rattle.bl_tableau.specs.Opening.{Appends}
-use Rattle.bl_tableau.proofs.OpeningSteps.{appends_one, row_number, slack_value, difference_narrow, read128, starts_fit, right_of_row, read_row, narrow_fits}
+use Rattle.bl_tableau.proofs.OpeningSteps.{appends_one, row_number, slack_value, difference_narrow, read128, starts_fit}
+use Rattle.bl_tableau.proofs.OpeningSteps.{right_of_row, read_row, narrow_fits}
 use Rattle.bl_tableau.proofs.opening.push_row.Goals as goal
 use Rattle.std.specs.Prelude.{slice_index_or}
 

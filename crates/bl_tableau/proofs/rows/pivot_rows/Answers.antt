@@ -1,7 +1,8 @@
 use Rattle.std.proofs.Common.{◌≡◌, ◌+◌, List, sym, subst, arith}
 use Rattle.bl_simplex.specs.Fractions.{Fraction}
 use Rattle.bl_tableau.specs.Cells.{AreReduced}
-use Rattle.bl_tableau.proofs.RowSteps.{RowsDone, wide_share, wide_remainder, rows_begin, rows_step, rows_skip, rows_end, rows_apart}
+use Rattle.bl_tableau.proofs.RowSteps.{RowsDone, wide_share, wide_remainder, rows_begin, rows_step, rows_skip, rows_end}
+use Rattle.bl_tableau.proofs.RowSteps.{rows_apart}
 use Rattle.bl_tableau.proofs.rows.pivot_rows.Goals as goal
 use Rattle.bl_tableau.proofs.rows.pivot_rows.Goals.{then-i-at+in_default-reduce_row, else-i-at}
 

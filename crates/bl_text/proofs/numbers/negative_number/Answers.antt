@@ -1,7 +1,8 @@
 use Rattle.std.proofs.Common.{arith}
 use Rattle.bl_text.proofs.Plain.{negative-none, negative-zero, negative-wide}
 use Rattle.bl_text.proofs.numbers.negative_number.Goals as goal
-use Rattle.bl_text.proofs.numbers.negative_number.Goals.{then-magnitude-eq0-via-then-magnitude-eq0, then-magnitude-eq0-via-else-magnitude-eq0+then-magnitude}
+use Rattle.bl_text.proofs.numbers.negative_number.Goals.{then-magnitude-eq0-via-then-magnitude-eq0}
+use Rattle.bl_text.proofs.numbers.negative_number.Goals.{then-magnitude-eq0-via-else-magnitude-eq0+then-magnitude}
 
 pub returns-in_err-magnitude-clause-none : goal.returns-in_err-magnitude-clause-none
 returns-in_err-magnitude-clause-none c =

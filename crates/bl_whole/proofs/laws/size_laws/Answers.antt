@@ -1,4 +1,5 @@
-use Rattle.bl_whole.proofs.WithinLemmas.{within_low, within_high, within_from_bounds, within_sum, within_product, within_sum_below, fits_from_within, dots_fit}
+use Rattle.bl_whole.proofs.WithinLemmas.{within_low, within_high, within_from_bounds, within_sum, within_product}
+use Rattle.bl_whole.proofs.WithinLemmas.{within_sum_below, fits_from_within, dots_fit}
 use Rattle.bl_whole.proofs.laws.size_laws.Goals as goal
 
 pub returns : goal.returns

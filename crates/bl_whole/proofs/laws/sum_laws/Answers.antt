@@ -1,4 +1,5 @@
-use Rattle.bl_whole.proofs.SumLemmas.{sum_below_more, sum_below-agree, sum_below-add, sum_below-scale, sum_below-split, sum_below-exchange, sum_below_monotone, sum_below_picked}
+use Rattle.bl_whole.proofs.SumLemmas.{sum_below_more, sum_below-agree, sum_below-add, sum_below-scale, sum_below-split}
+use Rattle.bl_whole.proofs.SumLemmas.{sum_below-exchange, sum_below_monotone, sum_below_picked}
 use Rattle.bl_whole.proofs.laws.sum_laws.Goals as goal
 
 pub returns : goal.returns

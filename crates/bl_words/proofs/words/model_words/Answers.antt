@@ -3,7 +3,8 @@ use Rattle.std.specs.Option.{option_map}
 use Rattle.std.specs.Str.{bytes_eq}
 use Rattle.bl_words.specs.Commands.{name_of}
 use Rattle.bl_words.specs.Items.{Item, AreModelItems}
-use Rattle.bl_words.proofs.Readings.{words-begin, model-words, said-by, if_some-says, if_none-refuses, none-read, some-read}
+use Rattle.bl_words.proofs.Readings.{words-begin, model-words, said-by, if_some-says, if_none-refuses, none-read}
+use Rattle.bl_words.proofs.Readings.{some-read}
 use Rattle.bl_words.proofs.words.model_words.Goals as goal
 
 pub returns-in_default-2-clause-refused : goal.returns-in_default-2-clause-refused

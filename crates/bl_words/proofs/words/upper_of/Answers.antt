@@ -1,7 +1,8 @@
 use Rattle.std.proofs.Common.{sym, ◌∙◌, inl, inr, rules}
 use Rattle.bl_words.proofs.Readings.{no-upper}
 use Rattle.bl_words.proofs.words.upper_of.Goals as goal
-use Rattle.bl_words.proofs.words.upper_of.Goals.{then-number-lt0-via-then-number-lt0, then-number-lt0-via-else-number-lt0+then-number}
+use Rattle.bl_words.proofs.words.upper_of.Goals.{then-number-lt0-via-then-number-lt0}
+use Rattle.bl_words.proofs.words.upper_of.Goals.{then-number-lt0-via-else-number-lt0+then-number}
 
 pub returns-then-number-lt0-clause-refused : goal.returns-then-number-lt0-clause-refused
 returns-then-number-lt0-clause-refused c =
