@@ -1,6 +1,5 @@
--- Trusted: what the arithmetic means over the rational numbers, as equations of whole numbers of any size, and what a
--- greatest common
--- divisor and a least common multiple are.
+-- Trusted: what the arithmetic means over the rational numbers, as equations of whole numbers of any size,
+-- and what a greatest common divisor and a least common multiple are.
 use Rattle.std.specs.Prelude.{◌≡◌, ◌≢◌, ℕ, ◌*◌, ◌^◌, ◌≤◌, ◌↔◌, ◌⊎◌, Option, Some, None, ℤ, pos, ◌+ℤ◌, ◌-ℤ◌, ◌*ℤ◌}
 use Rattle.std.specs.Prelude.{unsigned_abs}
 use Rattle.std.specs.Int.{◌∣◌}

@@ -22,9 +22,8 @@ use Rattle.bl_mps_terms.specs.Lines.{right_side_fault, range_fault, bound_fault,
 
 -- ---- one line
 
--- NAME, OBJSENSE, ROWS and COLUMNS stand in this order, each once, and the first two may lack; then RHS, RANGES and
--- BOUNDS
--- in any order, each at most once; then ENDATA.
+-- NAME, OBJSENSE, ROWS and COLUMNS stand in this order, each once, and the first two may lack; then RHS,
+-- RANGES and BOUNDS in any order, each at most once; then ENDATA.
 abbrev pub may_begin : List Section → Section → Bool
 may_begin before Name = length before == 0
 may_begin before ObjSense = not (has ObjSense before) && not (has Rows before)

@@ -261,9 +261,8 @@ abbrev pub last_set : {A : Type 0} → A → List (Option A) → A
 last_set first [] = first
 last_set first (set ∷ sets) = last_set (unwrap_or set first) sets
 
--- The last line that sets a side counts. A column that some line names has the lower bound 0 and no upper bound where
--- no
--- line sets them.
+-- The last line that sets a side counts. A column that some line names has the lower bound 0 and no upper
+-- bound where no line sets them.
 abbrev pub lower_of : List BoundLine → Option ℤ
 lower_of lines = last_set (Some (pos 0)) (map (λ bound. lower_set bound.kind (number_given bound)) lines)
 
@@ -280,9 +279,8 @@ is_above None upper = false
 is_above (Some lower) None = false
 is_above (Some lower) (Some upper) = int_lt upper lower
 
--- The faults of a column with these lines of bounds. An upper bound is negative only by `UP` or `UI`, where no line
--- sets
--- the lower bound.
+-- The faults of a column with these lines of bounds. An upper bound is negative only by `UP` or `UI`, where
+-- no line sets the lower bound.
 abbrev pub whole_fault : ℤ → Bool → List BoundLine → Option MpsRule
 whole_fault default marked lines = first_of (
     unless (marked || list_any (λ bound. makes_integer bound.kind) lines) rules.Continuous

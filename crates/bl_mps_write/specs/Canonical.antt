@@ -34,9 +34,8 @@ letter_of AtMost = codes "L"
 letter_of AtLeast = codes "G"
 letter_of Equal = codes "E"
 
--- A row with equal sides is E, one with one side L or G. With two sides it is G and has the left-hand side, where that
--- is
--- small enough for a text, else L with the right-hand side
+-- A row with equal sides is E, one with one side L or G. With two sides it is G and has the left-hand side,
+-- where that is small enough for a text, else L with the right-hand side
 abbrev pub two_sided : ℤ → ℤ → RowForm
 two_sided lo hi =
     if int_eq lo hi then record { kind = Equal; rhs = lo; range = None }

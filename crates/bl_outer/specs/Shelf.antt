@@ -13,11 +13,9 @@ pub data Mode : Type 0 where
   Reading : List ℕ → ℕ → Mode
   Writing : List ℕ → Mode
 
--- What a shelf tells: its files, the chosen one, how many calls of `find` and `next` failed, how many of `begin`,
--- `append`
--- and `finish`, how many of `find` answered Missing, and on which file the last `find` or `next` that failed was
--- called.
--- The files and that name are None where the shelf doesn't tell them.
+-- What a shelf tells: its files, the chosen one, how many calls of `find` and `next` failed, how many of
+-- `begin`, `append` and `finish`, how many of `find` answered Missing, and on which file the last `find` or
+-- `next` that failed was called. The files and that name are None where the shelf doesn't tell them.
 pub record ShelfState : Type 0 where
   pub contents : Option Files
   pub mode : Mode

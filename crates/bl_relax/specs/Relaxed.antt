@@ -6,9 +6,8 @@ use Rattle.bl_licence.specs.Why.{IsLicence}
 use Rattle.bl_relax.specs.declared.relaxed.Relaxed.{Relaxed}
 use Rattle.bl_relax.specs.declared.relaxed.Relaxed.TheVariants.{Closed, Whole, Stuck}
 
--- closed: the multipliers prove the cutoff, or that no point of the box meets the rows; whole: a point of the box that
--- meets the rows
--- and costs less than the cutoff; stuck: a licence to split the box
+-- closed: the multipliers prove the cutoff, or that no point of the box meets the rows; whole: a point of the
+-- box that meets the rows and costs less than the cutoff; stuck: a licence to split the box
 abbrev pub IsRelaxed : Problem → Option ℤ → Relaxed → Type 0
 IsRelaxed q u (Closed proof) = Proves q u proof
 IsRelaxed q u (Whole point) = IsBetterPoint q u point

@@ -86,11 +86,10 @@ Tells (Some line) old new =
     (Told (Adds line) old.bytes new.bytes × (new.faults ≡ old.faults))
     ⊎ (Told (AddsPrefix line) old.bytes new.bytes × Grew old.faults new.faults)
 
--- The promise of a top call that does these commands. There is one run, of which all the rest is said, and one
--- ending, whose status is answered
--- and whose cause stands. Words that ask for nothing end so, unless there is no memory; where the files are told, a
--- cause that stands in them gives
--- its ending. The rest is what is left on the files and on the two outputs.
+-- The promise of a top call that does these commands. There is one run, of which all the rest is said, and
+-- one ending, whose status is answered and whose cause stands. Words that ask for nothing end so, unless
+-- there is no memory; where the files are told, a cause that stands in them gives its ending. The rest is
+-- what is left on the files and on the two outputs.
 pub record Promise (does : Command → Bool) (words : List (List ℕ)) (old new : Outside) (old_err new_err : SinkState)
     (status : ℕ) : Type 0 where
   pub run : Run

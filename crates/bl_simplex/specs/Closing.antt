@@ -1,6 +1,5 @@
--- Trusted: when a dictionary closes the box, and the dual multipliers that it gives: a row shows that no point of the
--- box meets
--- the rows (Farkas 1902), or the cost row that none is below the cutoff.
+-- Trusted: when a dictionary closes the box, and the dual multipliers that it gives: a row shows that no
+-- point of the box meets the rows (Farkas 1902), or the cost row that none is below the cutoff.
 use Rattle.std.specs.Prelude.{ℕ, zero, suc, ◌+◌, ◌<◌, ◌⊎◌, ◌==◌, if◌then◌else◌, Option, Some, None, unwrap_or}
 use Rattle.std.specs.Prelude.{option_map, ℤ, pos, ◌-ℤ◌, ◌*ℤ◌, ◌≤ℤ◌, ◌<ℤ◌, unsigned_abs, length}
 use Rattle.bl_limits.specs.declared.TheConstants.{MAX_PROOF_NUMBER}

@@ -5,9 +5,9 @@ use Rattle.bl_whole.specs.Sums.{component, sum_below}
 use Rattle.bl_terms.specs.Bounds.{Problem, linear_at}
 use Rattle.bl_simplex.specs.Fractions.{Fraction, whole_fraction}
 
--- Each row reads: its variable is its right side less the sum of entry times column variable. place i j is the entry of
--- row i
--- at column j, and at the column after the last one the right side. A label is the number of a variable.
+-- Each row reads: its variable is its right side less the sum of entry times column variable. place i j is
+-- the entry of row i at column j, and at the column after the last one the right side. A label is the number
+-- of a variable.
 pub record Dictionary : Type 0 where
   pub place : ℕ → ℕ → Fraction
   pub row_label : ℕ → ℕ

@@ -1,6 +1,5 @@
--- Trusted: the legal pivot, a step of the dual simplex method (Lemke 1954). Its column is found by the dual ratio test,
--- ties going to
--- the least label (Bland 1977).
+-- Trusted: the legal pivot, a step of the dual simplex method (Lemke 1954). Its column is found by the dual
+-- ratio test, ties going to the least label (Bland 1977).
 use Rattle.std.specs.Prelude.{◌≡◌, ℕ, ◌<◌, ◌⊎◌, Option, Some, None, IsSome, MatchOption, pos, ◌<ℤ◌}
 use Rattle.std.specs.declared.cmp.Ordering.{Ordering}
 use Rattle.bl_terms.specs.Bounds.{Problem}

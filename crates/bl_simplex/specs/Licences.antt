@@ -1,7 +1,6 @@
--- Trusted: what licenses a solver to split a box rather than to close it or to take a point of it: a fractional point
--- that meets
--- the rows below the cutoff, or a run of legal pivots that passes 128 bits, the limit of pivots or the limit of the
--- proof numbers.
+-- Trusted: what licenses a solver to split a box rather than to close it or to take a point of it: a
+-- fractional point that meets the rows below the cutoff, or a run of legal pivots that passes 128 bits, the
+-- limit of pivots or the limit of the proof numbers.
 use Rattle.std.specs.Prelude.{◌≡◌, ◌≢◌, ℕ, ◌+◌, ◌*◌, ◌<◌, ◌⊎◌, Option, Some, None, ℤ, pos, ◌-ℤ◌, ◌≤ℤ◌, ◌<ℤ◌, List, []}
 use Rattle.std.specs.Prelude.{◌∷◌, ◌++◌, length}
 use Rattle.bl_whole.specs.Sums.{component}
@@ -79,9 +78,8 @@ pub record PassesPivots (q : Problem) (u : Option ℤ) (pivots : List (ℕ × �
   pub steps : AreSteps q u (opening q) pivots
   pub open_box : ¬ Closes q u (replay (opening q) pivots)
 
--- the dictionary closes the box, and the proof numbers that it gives pass their limit: those of the first closing row,
--- else of the
--- cost row
+-- the dictionary closes the box, and the proof numbers that it gives pass their limit: those of the first
+-- closing row, else of the cost row
 abbrev pub ClosesPastLimit : Problem → Option ℤ → Dictionary → Type 0
 ClosesPastLimit q u d =
     ((r : ℕ) × IsFirstClosingRow q d r × PassLimit q (row_multiplier q d r))

@@ -10,9 +10,8 @@ use Rattle.bl_simplex.specs.Dictionaries.{Dictionary, columns, cost_row, height_
 abbrev pub scaled_entry : Fraction → Fraction → Bool → Option Fraction
 scaled_entry x pivot own = if own then quotient_of (whole_fraction (pos 1)) pivot else quotient_of x pivot
 
--- the eliminated entry: a number x of another row, whose entry in the pivot column is e, less e times the scaled entry
--- f of the
--- pivot row; at the pivot's own column minus e times f
+-- the eliminated entry: a number x of another row, whose entry in the pivot column is e, less e times the
+-- scaled entry f of the pivot row; at the pivot's own column minus e times f
 abbrev pub eliminated_entry : Fraction → Fraction → Fraction → Bool → Option Fraction
 eliminated_entry e x f own =
     if own then option_map negated (product_of e f) else option_and_then (difference_of x) (product_of e f)

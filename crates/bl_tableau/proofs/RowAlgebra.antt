@@ -6,9 +6,8 @@ use Rattle.bl_whole.proofs.IdentityLemmas.{identity}
 use Rattle.bl_whole.proofs.Products.{*ℤ_assoc, neg_ℤ-*ℤ}
 use Rattle.bl_tableau.proofs.Scaling.{cancel, cancel_nonzero}
 
--- The pivot row says g·z = f·m - s - y·m: p is the pivot, g one over it, f the right side's share, s the shares' sum
--- without the
--- pivot column, y the value of the column, z that of the row, all over m.
+-- The pivot row says g·z = f·m - s - y·m: p is the pivot, g one over it, f the right side's share, s the
+-- shares' sum without the pivot column, y the value of the column, z that of the row, all over m.
 abbrev pub PivotEquation : ℤ → ℤ → ℤ → ℤ → ℤ → ℤ → Type 0
 PivotEquation m g z f s y = g *ℤ z ≡ (f *ℤ m -ℤ s) -ℤ y *ℤ m
 

@@ -1,6 +1,5 @@
--- Trusted. Proofs that the points of a box cost at least so much, or that no point of it meets the rows: weak duality
--- of linear programs with
--- bounded columns, and Farkas (1902) where the cost has no weight.
+-- Trusted. Proofs that the points of a box cost at least so much, or that no point of it meets the rows: weak
+-- duality of linear programs with bounded columns, and Farkas (1902) where the cost has no weight.
 use Rattle.std.specs.Prelude.{ℕ, ℤ, pos, ◌≡◌, ◌^◌, ◌<◌, ◌≤◌, ◌+ℤ◌, ◌-ℤ◌, ◌*ℤ◌, ◌≤ℤ◌, ◌<ℤ◌, List, [], ◌∷◌, length, map}
 use Rattle.std.specs.Prelude.{slice_index_or, Option, Some, None, if◌then◌else◌, int_lt, ◌+◌, ◌*◌, FitsSigned}
 use Rattle.std.specs.Int.{w64, w128}
@@ -143,11 +142,10 @@ TreeOfRefusals = (q : Problem) (nodes : List (BareNode Multipliers)) (z : List �
 abbrev pub reduced_cost_size : ℕ
 reduced_cost_size = MAX_PROBLEM_ROWS * (2 ^ 50 * MAX_PROBLEM_COEFFICIENT) + 2 ^ 50 * MAX_NUMBER
 
--- where the problem fits and the multipliers are from 0 to 2^50, every sum of a bound proof stays below 2^127, and so
--- does each
--- product, which is one of its terms: the first rows' part of a reduced cost, the reduced cost, each side's product,
--- the first columns' sum of least terms, the first rows' sum of right-hand sides, their
--- difference, and den · (u - 1) for a cutoff of 64 bits
+-- where the problem fits and the multipliers are from 0 to 2^50, every sum of a bound proof stays below
+-- 2^127, and so does each product, which is one of its terms: the first rows' part of a reduced cost, the
+-- reduced cost, each side's product, the first columns' sum of least terms, the first rows' sum of right-hand
+-- sides, their difference, and den · (u - 1) for a cutoff of 64 bits
 pub record SumsFit (q : Problem) (w : Multipliers) : Type 0 where
   pub rows_part : (j m : ℕ) → m ≤ length q.rows
       → FitsSigned w128 (sum_below m (λ i. component w.mult i *ℤ component (linear_at q.rows i).coef j))

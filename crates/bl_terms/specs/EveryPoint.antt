@@ -1,6 +1,5 @@
--- Trusted for the worked examples alone. Tests that decide the definitions of `Feasible` by trying every point of the
--- box. They are
--- there to check the definitions on small programs; no solver uses them.
+-- Trusted for the worked examples alone. Tests that decide the definitions of `Feasible` by trying every
+-- point of the box. They are there to check the definitions on small programs; no solver uses them.
 use Rattle.std.specs.Prelude.{ℕ, zero, suc, ℤ, pos, ◌+ℤ◌, ◌-ℤ◌, Bool, true, not, ◌&&◌, ◌||◌, List, [], ◌∷◌, length}
 use Rattle.std.specs.Prelude.{if◌then◌else◌, nat_eq, int_le, int_lt, unsigned_abs}
 use Rattle.std.specs.Bool.{Decides}

@@ -32,9 +32,8 @@ blank = record {
   leader_sense = pos 1;
 }
 
--- Moore and Bard (1990): columns X and Y from 0 to 10, Y the follower's. The leader minimises -X - 10Y and the follower
--- Y, over the
--- follower's rows -25X + 20Y <= 30, X + 2Y <= 10, 2X - Y <= 15 and 2X + 10Y >= 15
+-- Moore and Bard (1990): columns X and Y from 0 to 10, Y the follower's. The leader minimises -X - 10Y and
+-- the follower Y, over the follower's rows -25X + 20Y <= 30, X + 2Y <= 10, 2X - Y <= 15 and 2X + 10Y >= 15
 abbrev pub moore_bard : Program
 moore_bard = record blank {
   lo = pos 0 ∷ pos 0 ∷ [];
@@ -48,9 +47,8 @@ moore_bard = record blank {
   links = 0 ∷ [];
 }
 
--- X from 0 to 3 and Y, the follower's, from 0 to 5, with the follower's row Y - X <= 0. The leader minimises Y - 2X,
--- and the follower
--- maximises Y
+-- X from 0 to 3 and Y, the follower's, from 0 to 5, with the follower's row Y - X <= 0. The leader minimises
+-- Y - 2X, and the follower maximises Y
 abbrev pub greatest_answer : Program
 greatest_answer = record blank {
   lo = pos 0 ∷ pos 0 ∷ [];
@@ -170,9 +168,9 @@ pub record LeaderSenseFacts : Type 0 where
   pub program : IsProgram leader_maximises
   pub optimum : IsOnlyOptimum leader_maximises (two (pos 3) (pos 3)) (pos 3)
 
--- among equal optima of the follower the leader has the choice, and its rows may rule some of them out: (0, 0, 1) and
--- (0, 1, 0) are
--- optimal with -1. (0, 1, 1) has the follower's least cost and is ruled out by the leader's row
+-- among equal optima of the follower the leader has the choice, and its rows may rule some of them out:
+-- (0, 0, 1) and (0, 1, 0) are optimal with -1. (0, 1, 1) has the follower's least cost and is ruled out by
+-- the leader's row
 pub record ChoiceFacts : Type 0 where
   pub optimum : Optimal leader_chooses (three (pos 0) (pos 1) (pos 0)) (negsuc 0)
   pub another : Optimal leader_chooses (three (pos 1) (pos 0) (pos 1)) (negsuc 0)
@@ -180,9 +178,8 @@ pub record ChoiceFacts : Type 0 where
       × (follower_at leader_chooses (three (pos 0) (pos 1) (pos 1)) ≡ pos 0)
   pub ruled_out : ¬ BilevelFeasible leader_chooses (three (pos 0) (pos 1) (pos 1))
 
--- a row of the leader doesn't change the follower's least cost: the follower answers 0, which the leader's row refuses
--- at each point,
--- so no point is bilevel feasible, though (0, 1) meets every row
+-- a row of the leader doesn't change the follower's least cost: the follower answers 0, which the leader's
+-- row refuses at each point, so no point is bilevel feasible, though (0, 1) meets every row
 pub record RefusalFacts : Type 0 where
   pub rows : MeetsRows leader_refuses (two (pos 0) (pos 1))
   pub least : IsFollowerOptimum leader_refuses (two (pos 0) (pos 1)) (pos 0)
@@ -234,9 +231,8 @@ weights d ms = record { den = d; mult = ms }
 abbrev pub four : ℤ → ℤ → ℤ → ℤ → List ℤ
 four a b c d = a ∷ b ∷ c ∷ d ∷ []
 
--- 4 times the first row and 135 times the second are 35 times the cost of Moore and Bard's program: they prove that no
--- point costs
--- less than -42, and don't prove that of -41
+-- 4 times the first row and 135 times the second are 35 times the cost of Moore and Bard's program: they
+-- prove that no point costs less than -42, and don't prove that of -41
 pub record BoundFacts : Type 0 where
   pub problem : IsProblem (relaxation moore_bard)
   pub proved : Proves (relaxation moore_bard) (Some (negsuc 41))

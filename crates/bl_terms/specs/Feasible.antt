@@ -4,10 +4,9 @@
 use Rattle.std.specs.Prelude.{ℤ, ◌≡◌, ◌≤ℤ◌, List}
 use Rattle.bl_terms.specs.Programs.{Program, InBox, MeetsRows, MeetsLowerRows, SameLead, cost_at, value_at, follower_at}
 
--- z lies in the box and meets all rows, and no point of the box with z's values on the leader's columns that meets the
--- follower's
--- rows has a lower follower's cost. Such a point need not meet the leader's rows. Among equal optima of the follower
--- each is allowed
+-- z lies in the box and meets all rows, and no point of the box with z's values on the leader's columns that
+-- meets the follower's rows has a lower follower's cost. Such a point need not meet the leader's rows. Among
+-- equal optima of the follower each is allowed
 pub record BilevelFeasible (p : Program) (z : List ℤ) : Type 0 where
   pub inside : InBox p z
   pub rows : MeetsRows p z

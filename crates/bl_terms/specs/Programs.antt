@@ -23,13 +23,11 @@ row_code =
     (λ r. (r.coef, (r.rhs, r.lower)))
     (λ p. record { coef = p.0; rhs = p.1.0; lower = p.1.1 }) (λ _. refl)
 
--- a bilevel program. The numbers from lo to hi are each column's range. The leader minimises cost and the follower
--- follower_cost.
--- follower has the places of the follower's columns, links those of the linking columns. sense is 1 where the
--- follower's cost was
--- given to be minimised and -1 where it was given to be maximised, and leader_sense says the same of the leader's:
--- where it is -1
--- the cost here is the negation of the given one
+-- a bilevel program. The numbers from lo to hi are each column's range. The leader minimises cost and the
+-- follower follower_cost. follower has the places of the follower's columns, links those of the linking
+-- columns. sense is 1 where the follower's cost was given to be minimised and -1 where it was given to be
+-- maximised, and leader_sense says the same of the leader's: where it is -1 the cost here is the negation of
+-- the given one
 pub record Program : Type 0 where
   pub lo : List ℤ
   pub hi : List ℤ
@@ -165,9 +163,9 @@ pub record SameLead (p : Program) (z z' : List ℤ) : Type 0 where
 abbrev pub IsSense : ℤ → Type 0
 IsSense z = (z ≡ pos 1) ⊎ (z ≡ negsuc 0)
 
--- a program whose parts fit together: every list has one number for each column, no column's range is empty, the
--- follower's
--- columns rise and are columns, the follower's cost is 0 on the leader's columns, and links has the linking columns
+-- a program whose parts fit together: every list has one number for each column, no column's range is empty,
+-- the follower's columns rise and are columns, the follower's cost is 0 on the leader's columns, and links
+-- has the linking columns
 pub record IsProgram (p : Program) : Type 0 where
   pub box : IsArea (root p)
   pub row_columns : (i : ℕ) → i < length p.rows → length (row_at p.rows i).coef ≡ columns p

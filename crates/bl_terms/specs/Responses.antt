@@ -1,6 +1,6 @@
--- Trusted. What the follower can answer to the values of the linking columns, and what is true of its least cost: the
--- second-stage problem of
--- DeNegre and Ralphs (2009), over the linking columns of Tahernejad, Ralphs and DeNegre (2020).
+-- Trusted. What the follower can answer to the values of the linking columns, and what is true of its least
+-- cost: the second-stage problem of DeNegre and Ralphs (2009), over the linking columns of Tahernejad, Ralphs
+-- and DeNegre (2020).
 use Rattle.std.specs.Prelude.{ℕ, ℤ, ◌≡◌, ◌<◌, ◌+ℤ◌, ◌≤ℤ◌, ◌↔◌, List, length, slice_index, IsTrue}
 use Rattle.bl_whole.specs.Sums.{component, dot}
 use Rattle.bl_terms.specs.Points.{values_at}
@@ -22,9 +22,8 @@ IsLink p l = InRanges p p.links l
 abbrev pub lhs_of : Program → Row → List ℤ → List ℤ → ℤ
 lhs_of p r l y = dot (values_at r.coef p.links) l +ℤ dot (values_at r.coef p.follower) y
 
--- y is a response to l: it gives each of the follower's columns a value in its range, and meets each row of the
--- follower with l
--- on the linking columns
+-- y is a response to l: it gives each of the follower's columns a value in its range, and meets each row of
+-- the follower with l on the linking columns
 pub record IsResponse (p : Program) (l y : List ℤ) : Type 0 where
   pub ranges : InRanges p p.follower y
   pub rows : (i : ℕ) → i < length p.rows → IsTrue (row_at p.rows i).lower
@@ -74,9 +73,8 @@ abbrev pub NoResponseNoPoint : Type 0
 NoResponseNoPoint =
     (p : Program) (z : List ℤ) → IsProgram p → InBox p z → IsTrueEntry p (link_of p z) NoResponse → ¬ MeetsLowerRows p z
 
--- where the link's entry is Best with the cost v, a point that lies in the box and meets the rows is bilevel feasible
--- exactly where
--- its follower's cost is v, and exactly where it is at most v
+-- where the link's entry is Best with the cost v, a point that lies in the box and meets the rows is bilevel
+-- feasible exactly where its follower's cost is v, and exactly where it is at most v
 abbrev pub EntryLaw : Type 0
 EntryLaw =
     (p : Program) (z y : List ℤ) (v : ℤ) → IsProgram p → InBox p z → MeetsRows p z

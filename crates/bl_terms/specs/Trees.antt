@@ -1,6 +1,5 @@
--- Trusted. Branch-and-bound trees that split a box (Land and Doig 1960), generic in what a split and a leaf hand in:
--- lists of nodes
--- in preorder over a stack of the boxes that are still to be closed.
+-- Trusted. Branch-and-bound trees that split a box (Land and Doig 1960), generic in what a split and a leaf
+-- hand in: lists of nodes in preorder over a stack of the boxes that are still to be closed.
 use Rattle.std.specs.Prelude.{ℕ, ℤ, pos, ◌≡◌, ◌+◌, ◌*◌, ◌<◌, ◌≤◌, ◌+ℤ◌, ◌-ℤ◌, ◌≤ℤ◌, ◌<ℤ◌, zero, suc, Bool, IsTrue, ◌⊎◌}
 use Rattle.std.specs.Prelude.{List, [], ◌∷◌, length, slice_set, slice_index_or, unsigned_abs}
 use Rattle.bl_whole.specs.Sums.{component}
@@ -32,9 +31,8 @@ pub record CanSplit (a : Area) (j : ℕ) (v : ℤ) : Type 0 where
   pub least : component a.lo j ≤ℤ v
   pub below : v <ℤ component a.hi j
 
--- the nodes are trees over the boxes of the stack, one for each in their order; each split can be made and is shown by
--- what it
--- hands in, and each leaf closes its box
+-- the nodes are trees over the boxes of the stack, one for each in their order; each split can be made and is
+-- shown by what it hands in, and each leaf closes its box
 abbrev pub Covers : {S L : Type 0} → (Area → S → Type 0) → (Area → L → Type 0) → List (Node S L) → List Area → Type 0
 Covers splits closes [] [] = Unit {0}
 Covers splits closes [] (a ∷ stack) = ⊥
@@ -43,9 +41,8 @@ Covers splits closes (Leaf x ∷ ns) (a ∷ stack) = closes a x × Covers splits
 Covers splits closes (Split j v s ∷ ns) (a ∷ stack) =
     (CanSplit a j v × splits a s) × Covers splits closes ns (low_half a j v ∷ high_half a j v ∷ stack)
 
--- k is the place of the first node in preorder that fails. A list that ends early fails at its length, and one that
--- goes on after
--- the last tree at its first surplus node
+-- k is the place of the first node in preorder that fails. A list that ends early fails at its length, and
+-- one that goes on after the last tree at its first surplus node
 abbrev pub FailsFirst : {S L : Type 0} → (Area → S → Type 0) → (Area → L → Type 0) → List (Node S L) → List Area → ℕ
     → Type 0
 FailsFirst splits closes [] [] k = ⊥
