@@ -1,0 +1,2 @@
+//! A dictionary that closes its box gives a bound proof, by the duality of linear programs.
+#![tactic(auto)]
