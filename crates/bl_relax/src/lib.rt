@@ -6,6 +6,7 @@
 #![tactic(auto)]
 
 mod choice;
+mod distance;
 mod finish;
 mod point;
 mod relaxation;

@@ -10,7 +10,7 @@ use crate::choice::next_pivot;
 use crate::finish::{finish, pivots_of};
 use crate::relaxed::Relaxed;
 use bl_bound::Problem;
-use bl_licence::{Why, closes, may_pivot, pivot_limit};
+use bl_licence::{Why, closes, pivot_limit};
 use bl_tableau::Tableau;
 use std::alloc::{AllocError, Global};
 
@@ -31,12 +31,9 @@ fn take_pivot(problem: &Problem<'_>, cutoff: Option<i64>, tableau: &mut Tableau<
     requires room { length tableau.old.pivots < tableau.old.most }
     ensures { AdvancesTo problem.now cutoff tableau.old tableau.new result }
 {
-    let Some(pivot) = next_pivot(tableau) else {
+    let Some(pivot) = next_pivot(tableau, cutoff) else {
         return Advance::Last;
     };
-    if !may_pivot(tableau, cutoff, pivot) {
-        return Advance::Last;
-    }
     match tableau.pivot(pivot.0, pivot.1) {
         Ok(()) => Advance::Taken,
         Err(wide) => Advance::Wide {
