@@ -1,1 +1,4 @@
 pub mod Labels
+pub mod Regroup
+pub mod WholeRows
+pub mod PointValues
