@@ -149,7 +149,7 @@ cost_term q x j =
     omega (arith, ints)
 
 -- a sum of differences is the difference of the sums
-sum_of_differences : (n : ℕ) (f g : ℕ → ℤ) → sum_below n (λ j. f j -ℤ g j) ≡ sum_below n f -ℤ sum_below n g
+pub sum_of_differences : (n : ℕ) (f g : ℕ → ℤ) → sum_below n (λ j. f j -ℤ g j) ≡ sum_below n f -ℤ sum_below n g
 sum_of_differences n f g =
     let e = sum_below-add n (λ j. f j -ℤ g j) g in
     let h = sum_below-agree n (λ j. (f j -ℤ g j) +ℤ g j) f (λ j b. omega (arith, ints)) in
