@@ -9,3 +9,4 @@ pub mod RowsByLabel
 pub mod WholeMultipliers
 pub mod ClosingRows
 pub mod ClosingCosts
+pub mod ListedMultipliers
