@@ -1,7 +1,7 @@
 -- A cost row that closes the box: its multipliers prove the cutoff.
 use Rattle.std.proofs.Common.{◌≡◌, ◌≢◌, ℕ, ◌+◌, ◌*◌, ◌<◌, ◌≤◌, ℤ, pos, neg_ℤ, ◌+ℤ◌, ◌-ℤ◌, ◌*ℤ◌, ◌≤ℤ◌, ◌<ℤ◌, List, []}
 use Rattle.std.proofs.Common.{◌∷◌, length, inl, refl, sym, ap, ◌∙◌, subst, arith}
-use Rattle.std.specs.Prelude.{Option, Some, None, unwrap_or, option_map}
+use Rattle.std.specs.Prelude.{Some, None, unwrap_or, option_map}
 use Rattle.std.proofs.Math.IntN.{*ℤ_comm, zero-*ℤ, pos-*ℤ-pos}
 use Rattle.std.proofs.lemmas.Int.{ints}
 use Rattle.bl_limits.specs.declared.TheConstants.{MAX_PROOF_NUMBER}
@@ -10,7 +10,7 @@ use Rattle.bl_whole.specs.Identities.{variable, minus, times}
 use Rattle.bl_whole.proofs.IdentityLemmas.{identity}
 use Rattle.bl_whole.proofs.Products.{*ℤ_assoc, *ℤ--ℤ, mul_positive, lt_of_mul_lt, neg_ℤ-*ℤ, *ℤ-neg_ℤ}
 use Rattle.bl_terms.specs.Points.{InArea}
-use Rattle.bl_terms.specs.Bounds.{Problem, IsProblem, Multipliers, dual_bound, Proves, target_of}
+use Rattle.bl_terms.specs.Bounds.{Problem, IsProblem, Multipliers, dual_bound, Proves}
 use Rattle.bl_simplex.specs.Fractions.{Fraction, whole_fraction, negated}
 use Rattle.bl_simplex.specs.Dictionaries.{Dictionary, columns, cost_row, opening}
 use Rattle.bl_simplex.specs.Pivots.{replay}
@@ -24,11 +24,11 @@ use Rattle.bl_duality.proofs.Regroup.{each_found, coefficient_of_none, read_foun
 use Rattle.bl_duality.proofs.Regroup.{at_label_other}
 use Rattle.bl_duality.proofs.PointValues.{point_value, distance_least, room_least}
 use Rattle.bl_duality.proofs.Signs.{IsMultiple, one_nonpositive, over_nonpositive}
-use Rattle.bl_duality.proofs.CostSigns.{IsDualFeasible, IsReached, reached}
+use Rattle.bl_duality.proofs.CostSigns.{IsDualFeasible, reached}
 use Rattle.bl_duality.proofs.DualBounds.{corner, corner_inside, slack_sum, bound_at_corner}
-use Rattle.bl_duality.proofs.RowsByLabel.{row_coefficient, IsRowAt, part, box_part, slack_part, row_by_label}
-use Rattle.bl_duality.proofs.RowsByLabel.{sum_nonpositive}
-use Rattle.bl_duality.proofs.WholeMultipliers.{rest_of, common_of, total_of, AreSound, rest_positive, common_above}
+use Rattle.bl_duality.proofs.RowsByLabel.{row_coefficient, part, box_part, row_by_label}
+use Rattle.bl_duality.proofs.RowsByLabel.{sum_nonpositive, parts_replaced}
+use Rattle.bl_duality.proofs.WholeMultipliers.{rest_of, common_of, total_of, AreSound}
 use Rattle.bl_duality.proofs.WholeMultipliers.{multiplier_over, multipliers_from, row_at, slack_part_is, whole_over}
 use Rattle.bl_duality.proofs.WholeMultipliers.{not_above, total_multiple, multiplier_multiple}
 
@@ -128,7 +128,8 @@ spread_out n y b m =
     let v1 = variable 1 in
     let v2 = variable 2 in
     let v3 = variable 3 in
-    identity (n ∷ y ∷ b ∷ m ∷ []) (times (minus v0 (times v1 v2)) v3) (minus (times v0 v3) (times v2 (times v3 v1))) refl
+    identity (n ∷ y ∷ b ∷ m ∷ []) (times (minus v0 (times v1 v2)) v3)
+    (minus (times v0 v3) (times v2 (times v3 v1))) refl
 
 -- a fraction above a whole number, over m
 above_over : (m : ℕ) (f : Fraction) (y : ℤ) → IsMultiple m f → (y *ℤ pos f.den) <ℤ f.num → (pos m *ℤ y) <ℤ over m f
@@ -188,8 +189,7 @@ cost_bound q u pivots mult shape steps closes sound =
     own_cost q d m row.labels held.label ∙ total_product c rest in
     let equation : over m (d.place i (columns q))
     ≡ (box_part q d z i m +ℤ neg_ℤ (pos rest) *ℤ slack_sum q w z) +ℤ (pos rest *ℤ pos c) *ℤ dot q.cost z =
-    says ∙ ap (λ x. (box_part q d z i m +ℤ x) +ℤ row_coefficient q d i m (columns q + cost_row q) *ℤ dot q.cost z) slacks
-    ∙ ap (λ x. (box_part q d z i m +ℤ neg_ℤ (pos rest) *ℤ slack_sum q w z) +ℤ x *ℤ dot q.cost z) cost in
+    parts_replaced (box_part q d z i m) (dot q.cost z) says slacks cost in
     let value = above_over m (d.place i (columns q)) (u -ℤ pos 1) (multiples (columns q) (omega arith)) closes in
     let above : ((pos rest *ℤ pos c) *ℤ (u -ℤ pos 1)) <ℤ over m (d.place i (columns q)) =
     subst (λ x. (x *ℤ (u -ℤ pos 1)) <ℤ over m (d.place i (columns q))) (total_product c rest) value in

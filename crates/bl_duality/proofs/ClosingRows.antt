@@ -1,15 +1,14 @@
 -- A row that closes the box: its multipliers prove that no point of the box meets the rows.
-use Rattle.std.proofs.Common.{◌≡◌, ◌≢◌, ℕ, ◌+◌, ◌<◌, ◌≤◌, Bool, true, false, cond, ℤ, pos, ◌+ℤ◌, ◌-ℤ◌, ◌*ℤ◌, ◌≤ℤ◌}
+use Rattle.std.proofs.Common.{◌≡◌, ℕ, ◌+◌, ◌<◌, ◌≤◌, Bool, true, false, cond, ℤ, pos, ◌+ℤ◌, ◌-ℤ◌, ◌*ℤ◌, ◌≤ℤ◌}
 use Rattle.std.proofs.Common.{◌<ℤ◌, List, length, refl, sym, ap, ◌∙◌, subst, arith}
 use Rattle.std.specs.Prelude.{Option, Some, None, unwrap_or, option_map, ◌==◌}
 use Rattle.std.proofs.Math.IntN.{zero-*ℤ}
 use Rattle.std.proofs.lemmas.Int.{ints, by_lt_z}
-use Rattle.bl_limits.specs.declared.TheConstants.{MAX_PROOF_NUMBER}
-use Rattle.bl_whole.specs.Sums.{component, dot}
+use Rattle.bl_whole.specs.Sums.{dot}
 use Rattle.bl_whole.proofs.Products.{one-*ℤ, mul_nonneg}
 use Rattle.bl_terms.specs.Points.{InArea}
-use Rattle.bl_terms.specs.Bounds.{Problem, IsProblem, Multipliers, dual_bound, Proves, target_of}
-use Rattle.bl_simplex.specs.Fractions.{Fraction, whole_fraction}
+use Rattle.bl_terms.specs.Bounds.{Problem, IsProblem, Multipliers, dual_bound, target_of}
+use Rattle.bl_simplex.specs.Fractions.{whole_fraction}
 use Rattle.bl_simplex.specs.Dictionaries.{Dictionary, columns, cost_row, opening}
 use Rattle.bl_simplex.specs.Pivots.{replay}
 use Rattle.bl_simplex.specs.Closing.{ClosesByRow, PassLimit, labelled, row_multiplier}
@@ -19,13 +18,13 @@ use Rattle.bl_tableau.proofs.PivotLaw.{ArePositive}
 use Rattle.bl_duality.specs.Laws.{AreMadeWhole, ClosingRowProves}
 use Rattle.bl_duality.proofs.Labels.{ArePermuted}
 use Rattle.bl_duality.proofs.Regroup.{each_found, coefficient_of_none, read_found, at_label, at_label_other}
-use Rattle.bl_duality.proofs.PointValues.{point_value, distance_least, room_least}
-use Rattle.bl_duality.proofs.Signs.{IsMultiple, one_nonpositive, over_nonnegative, over_negative}
-use Rattle.bl_duality.proofs.CostSigns.{IsReached, reached}
+use Rattle.bl_duality.proofs.PointValues.{distance_least, room_least}
+use Rattle.bl_duality.proofs.Signs.{IsMultiple, over_nonnegative, over_negative}
+use Rattle.bl_duality.proofs.CostSigns.{reached}
 use Rattle.bl_duality.proofs.DualBounds.{corner, corner_inside, slack_sum, bound_at_corner}
-use Rattle.bl_duality.proofs.RowsByLabel.{row_coefficient, IsRowAt, part, box_part, slack_part, row_by_label}
-use Rattle.bl_duality.proofs.RowsByLabel.{sum_nonnegative}
-use Rattle.bl_duality.proofs.WholeMultipliers.{rest_of, total_of, AreSound, rest_positive, common_above}
+use Rattle.bl_duality.proofs.RowsByLabel.{row_coefficient, part, box_part, row_by_label}
+use Rattle.bl_duality.proofs.RowsByLabel.{sum_nonnegative, parts_replaced}
+use Rattle.bl_duality.proofs.WholeMultipliers.{rest_of, total_of, AreSound}
 use Rattle.bl_duality.proofs.WholeMultipliers.{multiplier_over, multipliers_from, row_at, slack_part_is, whole_over}
 use Rattle.bl_duality.proofs.WholeMultipliers.{total_multiple}
 
@@ -144,8 +143,7 @@ row_bound q u pivots r mult shape steps closes sound =
     let cost = no_cost q d r m closes.row_in row.labels held.label in
     let equation : over m (d.place r (columns q))
     ≡ (box_part q d z r m +ℤ pos rest *ℤ slack_sum q w z) +ℤ pos 0 *ℤ dot q.cost z =
-    says ∙ ap (λ x. (box_part q d z r m +ℤ x) +ℤ row_coefficient q d r m (columns q + cost_row q) *ℤ dot q.cost z) slacks
-    ∙ ap (λ x. (box_part q d z r m +ℤ pos rest *ℤ slack_sum q w z) +ℤ x *ℤ dot q.cost z) cost in
+    parts_replaced (box_part q d z r m) (dot q.cost z) says slacks cost in
     let below = bound_above (over m (d.place r (columns q))) (box_part q d z r m) (pos rest) (slack_sum q w z)
     (dot q.cost z)
     (over_negative m (d.place r (columns q)) (multiples (columns q) (omega arith)) closes.infeasible)

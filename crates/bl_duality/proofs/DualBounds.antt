@@ -11,7 +11,7 @@ use Rattle.bl_whole.specs.Sums.{component, sum_below, dot}
 use Rattle.bl_whole.proofs.Products.{*ℤ_assoc, +ℤ-*ℤ, *ℤ--ℤ}
 use Rattle.bl_whole.proofs.SumLemmas.{sum_below-agree, sum_below-add, sum_below-scale, sum_below-exchange}
 use Rattle.bl_terms.specs.Points.{InArea}
-use Rattle.bl_terms.specs.Bounds.{Problem, linear_at, IsProblem, Multipliers, reduced_cost, least_product, least_term}
+use Rattle.bl_terms.specs.Bounds.{Problem, linear_at, IsProblem, Multipliers, reduced_cost, least_term}
 use Rattle.bl_terms.specs.Bounds.{rhs_sum, dual_bound}
 use Rattle.bl_duality.proofs.PointValues.{slack, sum_of_differences}
 

@@ -1,9 +1,8 @@
 -- The laws for multipliers that stand in lists, as a dictionary's are read from a tableau.
-use Rattle.std.proofs.Common.{◌≡◌, ℕ, ◌<◌, Option, ℤ, pos, List, length, sym, ap, ◌∙◌, subst, arith}
-use Rattle.bl_whole.specs.Sums.{component}
+use Rattle.std.proofs.Common.{◌≡◌, ℕ, Option, ℤ, pos, List, length, sym, ap, ◌∙◌, subst, arith}
 use Rattle.bl_terms.specs.Bounds.{Problem, IsProblem, Proves}
 use Rattle.bl_simplex.specs.Fractions.{Fraction}
-use Rattle.bl_simplex.specs.Rationals.{fraction_at, common_denominator, times_multiple}
+use Rattle.bl_simplex.specs.Rationals.{common_denominator, times_multiple}
 use Rattle.bl_simplex.specs.Dictionaries.{opening}
 use Rattle.bl_simplex.specs.Pivots.{replay}
 use Rattle.bl_simplex.specs.Closing.{ClosesByRow, ClosesByCost, PassLimit, row_multiplier, cost_multiplier}

@@ -1,6 +1,6 @@
 -- A sum by place regrouped by label: each label counts once, with the coefficient of the place that it labels.
-use Rattle.std.proofs.Common.{◌≡◌, ◌≢◌, ℕ, zero, suc, ◌<◌, inl, inr, Bool, true, false, ℤ, pos, ◌+ℤ◌, ◌*ℤ◌, cond, refl, sym, ap}
-use Rattle.std.proofs.Common.{◌∙◌, arith}
+use Rattle.std.proofs.Common.{◌≡◌, ◌≢◌, ℕ, zero, suc, ◌<◌, inl, inr, Bool, true, false, cond, ℤ, pos, ◌+ℤ◌, ◌*ℤ◌}
+use Rattle.std.proofs.Common.{refl, sym, ap, ◌∙◌, arith}
 use Rattle.std.specs.Prelude.{Option, Some, None, unwrap_or, option_map, ◌==◌}
 use Rattle.std.proofs.Math.IntN.{zero-*ℤ}
 use Rattle.std.proofs.lemmas.Int.{ints}

@@ -1,19 +1,17 @@
 -- A row of a reached dictionary at the values of a point, regrouped by label.
-use Rattle.std.proofs.Common.{◌≡◌, ℕ, zero, suc, ◌+◌, ◌*◌, ◌<◌, ◌≤◌, ℤ, pos, ◌+ℤ◌, ◌*ℤ◌, ◌≤ℤ◌, List, refl, sym, ap, ◌∙◌}
-use Rattle.std.proofs.Common.{subst, arith, length}
-use Rattle.std.specs.Int.{◌∣◌}
+use Rattle.std.proofs.Common.{◌≡◌, ℕ, zero, suc, ◌+◌, ◌<◌, ◌≤◌, ℤ, pos, ◌+ℤ◌, ◌*ℤ◌, ◌≤ℤ◌, List, ap, ◌∙◌}
+use Rattle.std.proofs.Common.{arith, length}
 use Rattle.std.specs.Int.Signed.{≤ℤ_refl}
 use Rattle.std.proofs.lemmas.Int.{ints}
-use Rattle.bl_whole.specs.Sums.{component, sum_below, dot}
+use Rattle.bl_whole.specs.Sums.{sum_below, dot}
 use Rattle.bl_whole.proofs.SumLemmas.{sum_below-agree, sum_below-split, sum_below_more}
-use Rattle.bl_terms.specs.Points.{InArea}
-use Rattle.bl_terms.specs.Bounds.{Problem, IsProblem}
+use Rattle.bl_terms.specs.Bounds.{Problem}
 use Rattle.bl_simplex.specs.Dictionaries.{Dictionary, columns, cost_row}
 use Rattle.bl_tableau.specs.Solutions.{SolvesRow}
 use Rattle.bl_tableau.proofs.Scaling.{over}
 use Rattle.bl_tableau.proofs.PivotLaw.{ArePositive}
 use Rattle.bl_duality.proofs.Labels.{variables, ArePermuted}
-use Rattle.bl_duality.proofs.Regroup.{coefficient, at_label, at_label_other, AreApart, regrouped_with}
+use Rattle.bl_duality.proofs.Regroup.{coefficient, at_label, at_label_other, regrouped_with}
 use Rattle.bl_duality.proofs.WholeRows.{whole_values, IsRowMultiple, whole_row}
 use Rattle.bl_duality.proofs.PointValues.{slack, point_value, value_of_slack, value_of_cost}
 
@@ -79,6 +77,12 @@ row_by_label q d z i m row =
     (λ k h. ap (λ x. c (n + k) *ℤ x) (value_of_slack q z k h)) in
     let t = ap (λ x. c (n + cost_row q) *ℤ x) (value_of_cost q z) in
     omega (arith, ints)
+
+-- the slacks' part and the cost's coefficient by other names
+pub parts_replaced : {b s s' c c' : ℤ} (x v : ℤ) → b ≡ (x +ℤ s) +ℤ c *ℤ v → s ≡ s' → c ≡ c'
+    → b ≡ (x +ℤ s') +ℤ c' *ℤ v
+parts_replaced {s' = s'} {c = c} x v e es ec =
+    e ∙ ap (λ y. (x +ℤ y) +ℤ c *ℤ v) es ∙ ap (λ y. (x +ℤ s') +ℤ y *ℤ v) ec
 
 pub sum_nonnegative : (n : ℕ) (f : ℕ → ℤ) → ((k : ℕ) → k < n → pos 0 ≤ℤ f k) → pos 0 ≤ℤ sum_below n f
 sum_nonnegative zero f h = ≤ℤ_refl (pos 0)

@@ -1,46 +1,38 @@
 -- The multipliers of a row of a reached dictionary, made whole.
-use Rattle.std.proofs.Common.{◌≡◌, ◌≢◌, ℕ, zero, suc, ◌+◌, ◌*◌, ◌/◌, ◌<◌, ◌≤◌, ◌⊎◌, inl, inr, Bool, true, false, cond, ℤ}
-use Rattle.std.proofs.Common.{pos, negsuc, neg_ℤ, ◌+ℤ◌, ◌-ℤ◌, ◌*ℤ◌, ◌≤ℤ◌, ◌<ℤ◌, unsigned_abs, List, length, refl, sym}
+use Rattle.std.proofs.Common.{◌≡◌, ℕ, suc, ◌+◌, ◌*◌, ◌/◌, ◌<◌, ◌≤◌, inr, ℤ}
+use Rattle.std.proofs.Common.{pos, ◌*ℤ◌, ◌≤ℤ◌, ◌<ℤ◌, unsigned_abs, List, length, sym}
 use Rattle.std.proofs.Common.{ap, ◌∙◌, subst, arith}
-use Rattle.std.specs.Prelude.{Option, Some, None, unwrap_or, option_map, ◌==◌, if◌then◌else◌}
+use Rattle.std.specs.Prelude.{Option}
 use Rattle.std.specs.Int.{◌∣◌}
 use Rattle.std.proofs.Math.Nat.{dvd_trans, dvd-mul_left, dvd-mul_right, one-dvd, div-mul_cancel}
-use Rattle.std.proofs.Math.IntN.{*ℤ_comm, zero-*ℤ, pos-*ℤ-pos}
+use Rattle.std.proofs.Math.IntN.{*ℤ_comm, pos-*ℤ-pos}
 use Rattle.std.proofs.lemmas.Int.{ints, by_lt_z}
 use Rattle.bl_limits.specs.declared.TheConstants.{MAX_PROOF_NUMBER}
-use Rattle.bl_whole.specs.Sums.{component, sum_below, dot}
-use Rattle.bl_whole.specs.Identities.{variable, minus, times}
-use Rattle.bl_whole.proofs.IdentityLemmas.{identity}
-use Rattle.bl_whole.proofs.Products.{*ℤ_assoc, *ℤ_one, one-*ℤ, mul_nonneg, mul_positive, lt_of_mul_lt, neg_ℤ-*ℤ}
+use Rattle.bl_whole.specs.Sums.{component}
+use Rattle.bl_whole.proofs.Products.{*ℤ_assoc, *ℤ_one, mul_nonneg}
 use Rattle.bl_whole.proofs.SumLemmas.{sum_below-agree, sum_below-scale}
-use Rattle.bl_terms.specs.Points.{InArea}
-use Rattle.bl_terms.specs.Bounds.{Problem, IsProblem, Multipliers, dual_bound, AreMultipliers, Proves, target_of}
-use Rattle.bl_simplex.specs.Fractions.{Fraction, whole_fraction, negated}
+use Rattle.bl_terms.specs.Bounds.{Problem, IsProblem, Multipliers, AreMultipliers}
+use Rattle.bl_simplex.specs.Fractions.{Fraction, whole_fraction}
 use Rattle.bl_simplex.specs.Rationals.{common_denominator, times_multiple}
 use Rattle.bl_simplex.specs.Dictionaries.{Dictionary, columns, cost_row, opening}
 use Rattle.bl_simplex.specs.Pivots.{replay}
-use Rattle.bl_simplex.specs.Closing.{ClosesByRow, ClosesByCost, PassLimit, labelled, entry_labelled, row_multiplier}
-use Rattle.bl_simplex.specs.Closing.{cost_multiplier}
+use Rattle.bl_simplex.specs.Closing.{PassLimit}
 use Rattle.bl_simplex.specs.Licences.{AreSteps}
 use Rattle.bl_tableau.specs.Solutions.{SolvesRow}
-use Rattle.bl_tableau.proofs.Scaling.{IsOver, over, over_is, over_more, over_negated, over_unique, multiple}
+use Rattle.bl_tableau.proofs.Scaling.{over, over_is, over_more, over_unique, multiple}
 use Rattle.bl_tableau.proofs.Scaling.{multiple_positive, dvd_multiple}
 use Rattle.bl_tableau.proofs.PivotLaw.{ArePositive}
 use Rattle.bl_tableau.proofs.RowEquations.{product_positive}
 use Rattle.bl_tableau.proofs.ReplayInduction.{replay_law}
 use Rattle.bl_licence.proofs.Multiples.{common_positive, common_divides}
-use Rattle.bl_duality.specs.Laws.{AreMadeWhole, ClosingRowProves, ClosingCostProves}
-use Rattle.bl_duality.proofs.Labels.{ArePermuted, permuted}
-use Rattle.bl_duality.proofs.Regroup.{each_found, coefficient_of_none, read_found, at_label, at_label_same}
-use Rattle.bl_duality.proofs.Regroup.{at_label_other}
-use Rattle.bl_duality.proofs.WholeRows.{whole_values}
-use Rattle.bl_duality.proofs.PointValues.{slack, point_value, distance_least, room_least, value_list, list_is}
+use Rattle.bl_duality.specs.Laws.{AreMadeWhole}
+use Rattle.bl_duality.proofs.Labels.{permuted}
+use Rattle.bl_duality.proofs.PointValues.{slack, value_list, list_is}
 use Rattle.bl_duality.proofs.PointValues.{list_rational, opening_solved}
-use Rattle.bl_duality.proofs.Signs.{IsMultiple, one_nonpositive, over_nonnegative, over_nonpositive, over_negative}
-use Rattle.bl_duality.proofs.CostSigns.{IsReached, reached, steps_narrow}
-use Rattle.bl_duality.proofs.DualBounds.{corner, corner_inside, slack_sum, bound_at_corner}
-use Rattle.bl_duality.proofs.RowsByLabel.{row_coefficient, IsRowAt, part, box_part, slack_part, row_by_label}
-use Rattle.bl_duality.proofs.RowsByLabel.{sum_nonnegative, sum_nonpositive}
+use Rattle.bl_duality.proofs.Signs.{IsMultiple}
+use Rattle.bl_duality.proofs.CostSigns.{reached, steps_narrow}
+use Rattle.bl_duality.proofs.DualBounds.{slack_sum}
+use Rattle.bl_duality.proofs.RowsByLabel.{row_coefficient, IsRowAt, slack_part}
 
 -- ---- one multiple of all denominators of a row and its multipliers
 

@@ -20,20 +20,16 @@ pub record AreMadeWhole (q : Problem) (f : ℕ → Fraction) (mult : List ℤ) :
 abbrev pub ClosingRowProves : Type 0
 ClosingRowProves =
     (q : Problem) (u : Option ℤ) (pivots : List (ℕ × ℕ)) (r : ℕ) (mult : List ℤ)
-    → IsProblem q → AreSteps q u (opening q) pivots
-    → ClosesByRow q (replay (opening q) pivots) r → ¬ PassLimit q (row_multiplier q (replay (opening q) pivots) r)
-    → AreMadeWhole q (row_multiplier q (replay (opening q) pivots) r) mult
-    → Proves q u (record { den = pos 0; mult = mult })
+    → let d = replay (opening q) pivots in
+    IsProblem q → AreSteps q u (opening q) pivots → ClosesByRow q d r → ¬ PassLimit q (row_multiplier q d r)
+    → AreMadeWhole q (row_multiplier q d r) mult → Proves q u (record { den = pos 0; mult = mult })
 
 -- where steps lead to a dictionary that the cost row closes, the cost row's multipliers prove the cutoff, unless they
 -- pass that limit
 abbrev pub ClosingCostProves : Type 0
 ClosingCostProves =
     (q : Problem) (u : Option ℤ) (pivots : List (ℕ × ℕ)) (mult : List ℤ)
-    → IsProblem q → AreSteps q u (opening q) pivots
-    → ClosesByCost q u (replay (opening q) pivots) → ¬ PassLimit q (cost_multiplier q (replay (opening q) pivots))
-    → AreMadeWhole q (cost_multiplier q (replay (opening q) pivots)) mult
-    → Proves q u (record {
-      den = pos (common_denominator (length q.rows) (cost_multiplier q (replay (opening q) pivots)));
-      mult = mult;
-    })
+    → let d = replay (opening q) pivots in
+    let common = common_denominator (length q.rows) (cost_multiplier q d) in
+    IsProblem q → AreSteps q u (opening q) pivots → ClosesByCost q u d → ¬ PassLimit q (cost_multiplier q d)
+    → AreMadeWhole q (cost_multiplier q d) mult → Proves q u (record { den = pos common; mult = mult })
