@@ -1,18 +1,17 @@
 -- Steps keep the cost row's entries from being positive: the dual ratio test.
-use Rattle.std.proofs.Common.{◌≡◌, ◌≢◌, ℕ, ◌+◌, ◌*◌, ◌/◌, ◌<◌, ◌≤◌, ◌⊎◌, inl, inr, Less, Equal, List, [], ◌∷◌, ℤ, pos, neg_ℤ, ◌-ℤ◌}
+use Rattle.std.proofs.Common.{◌≡◌, ◌≢◌, ℕ, ◌+◌, ◌*◌, ◌/◌, ◌<◌, ◌≤◌, inl, inr, List, [], ◌∷◌, ℤ, pos, neg_ℤ, ◌-ℤ◌}
 use Rattle.std.proofs.Common.{◌*ℤ◌, ◌≤ℤ◌, ◌<ℤ◌, unsigned_abs, int_div, sym, ap, ◌∙◌, subst, arith, refl}
 use Rattle.std.specs.Prelude.{Option, Some, None, negsuc}
 use Rattle.std.proofs.Math.Nat.{div-one}
 use Rattle.std.proofs.lemmas.Bool.{cases_eq}
 use Rattle.std.proofs.lemmas.Int.{ints, by_lt_z}
-use Rattle.std.proofs.lemmas.Option.{MatchOption-at_some, MatchOption-at_none}
 use Rattle.bl_terms.specs.Bounds.{Problem}
 use Rattle.bl_simplex.specs.Gcd.{gcd}
 use Rattle.bl_simplex.specs.Fractions.{Fraction, whole_fraction, reciprocal, product_top, product_bottom, product_of}
-use Rattle.bl_simplex.specs.Fractions.{quotient_of, order_of}
+use Rattle.bl_simplex.specs.Fractions.{quotient_of}
 use Rattle.bl_simplex.specs.Dictionaries.{Dictionary, columns, cost_row, opening}
 use Rattle.bl_simplex.specs.Pivots.{pivoted, IsNarrowPivot, replay, AllNarrow}
-use Rattle.bl_simplex.specs.LegalPivots.{ratio_of, IsCandidate, WinsRatioTest, LosesRatioTest, HasLeastRatio, IsLegal}
+use Rattle.bl_simplex.specs.LegalPivots.{ratio_of, IsCandidate, LosesRatioTest, HasLeastRatio, IsLegal}
 use Rattle.bl_simplex.specs.Licences.{IsStep, AreSteps}
 use Rattle.bl_frac.proofs.GcdLaws.{gcd_one, gcd_comm}
 use Rattle.bl_frac.proofs.Terms.{product_of-some}

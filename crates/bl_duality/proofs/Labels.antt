@@ -1,5 +1,6 @@
 -- The labels of a dictionary are a permutation: each variable labels one row or one column, also after pivots.
-use Rattle.std.proofs.Common.{◌≡◌, ◌≢◌, ℕ, ◌+◌, ◌-◌, ◌<◌, ◌≤◌, ◌⊎◌, inl, inr, List, [], ◌∷◌, refl, sym, ap, ◌∙◌, subst, arith}
+use Rattle.std.proofs.Common.{◌≡◌, ◌≢◌, ℕ, ◌+◌, ◌-◌, ◌<◌, ◌≤◌, ◌⊎◌, inl, inr, List, [], ◌∷◌, refl, sym, ap, ◌∙◌}
+use Rattle.std.proofs.Common.{subst, arith}
 use Rattle.std.proofs.lemmas.Bool.{cases_eq, cases_lt}
 use Rattle.bl_terms.specs.Bounds.{Problem}
 use Rattle.bl_simplex.specs.Dictionaries.{Dictionary, columns, cost_row, opening}
@@ -136,18 +137,16 @@ found_still : (q : Problem) (d : Dictionary) (r c l : ℕ) → IsPivot q d r c �
     → IsLabel q (pivoted d r c) l
 found_still q d r c l can (inl (i, h)) =
     elim (cases_eq i r) [
-      | inl e ↦ inr (c, record {
-        column_in = can.column_in;
-        label = column_label_own d r c ∙ ap d.row_label (sym e) ∙ h.label;
-      })
+      | inl e ↦
+          let label = column_label_own d r c ∙ ap d.row_label (sym e) ∙ h.label in
+          inr (c, record { column_in = can.column_in; label = label })
       | inr ne ↦ inl (i, record { row_in = h.row_in; label = row_label_other d r c i ne ∙ h.label })
     ]
 found_still q d r c l can (inr (j, h)) =
     elim (cases_eq j c) [
-      | inl e ↦ inl (r, record {
-        row_in = can.row_in;
-        label = row_label_own d r c ∙ ap d.column_label (sym e) ∙ h.label;
-      })
+      | inl e ↦
+          let label = row_label_own d r c ∙ ap d.column_label (sym e) ∙ h.label in
+          inl (r, record { row_in = can.row_in; label = label })
       | inr ne ↦ inr (j, record { column_in = h.column_in; label = column_label_other d r c j ne ∙ h.label })
     ]
 

@@ -4,3 +4,9 @@ pub mod WholeRows
 pub mod PointValues
 pub mod Signs
 pub mod CostSigns
+pub mod DualBounds
+pub mod RowsByLabel
+pub mod WholeMultipliers
+pub mod ClosingRows
+pub mod ClosingCosts
+pub mod ListedMultipliers

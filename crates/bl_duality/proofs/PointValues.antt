@@ -1,17 +1,17 @@
 -- The values that a whole point gives the variables: they solve the opening dictionary.
-use Rattle.std.proofs.Common.{◌≡◌, ◌≢◌, ℕ, ◌+◌, ◌-◌, ◌<◌, ◌≤◌, Bool, true, false, cond, ltb, ℤ, pos, negsuc, neg_ℤ}
+use Rattle.std.proofs.Common.{◌≡◌, ◌≢◌, ℕ, ◌+◌, ◌-◌, ◌<◌, ◌≤◌, Bool, true, false, cond, ℤ, pos, negsuc, neg_ℤ}
 use Rattle.std.proofs.Common.{◌+ℤ◌, ◌-ℤ◌, ◌*ℤ◌, ◌≤ℤ◌, unsigned_abs, List, length, map, inl, inr, refl, sym, ap, ◌∙◌}
 use Rattle.std.proofs.Common.{subst, arith}
-use Rattle.std.specs.Prelude.{int_lt, ◌==◌, nat_lt, if◌then◌else◌}
+use Rattle.std.specs.Prelude.{int_lt, nat_lt, if◌then◌else◌}
 use Rattle.std.specs.List.{range_with_len}
 use Rattle.std.proofs.Math.IntN.{zero-*ℤ}
-use Rattle.std.proofs.lemmas.Bool.{cases_lt, cases_eq, cond-true, cond-false, lt-ltb, le-ltb}
+use Rattle.std.proofs.lemmas.Bool.{cases_lt, cond-true, cond-false, lt-ltb, le-ltb}
 use Rattle.std.proofs.lemmas.Int.{ints}
 use Rattle.std.proofs.lemmas.List.{get_or_past}
 use Rattle.std.proofs.lemmas.List.FromFn.{length-map-range_with_len, get_or-map-range_with_len}
 use Rattle.bl_whole.specs.Sums.{component, sum_below, dot}
 use Rattle.bl_whole.proofs.Products.{*ℤ_assoc, *ℤ_one, one-*ℤ, neg_ℤ-*ℤ, *ℤ-neg_ℤ, *ℤ--ℤ}
-use Rattle.bl_whole.proofs.SumLemmas.{sum_below-agree, sum_below-add, sum_below-scale}
+use Rattle.bl_whole.proofs.SumLemmas.{sum_below-agree, sum_below-add}
 use Rattle.bl_terms.specs.Points.{InArea}
 use Rattle.bl_terms.specs.Bounds.{Problem, IsProblem, linear_at}
 use Rattle.bl_simplex.specs.Fractions.{Fraction, whole_fraction}
@@ -21,9 +21,8 @@ use Rattle.bl_simplex.specs.Dictionaries.{opening}
 use Rattle.bl_tableau.specs.Solutions.{SolvesRow, Solves, AreRational}
 use Rattle.bl_tableau.proofs.OpeningSteps.{entry_of_row, right_of_row, entry_of_range, right_of_range, entry_of_cost}
 use Rattle.bl_tableau.proofs.OpeningSteps.{right_of_cost}
-use Rattle.bl_tableau.proofs.RowSteps.{test_other}
 use Rattle.bl_duality.proofs.Labels.{variables}
-use Rattle.bl_duality.proofs.Regroup.{sum_of_one, at_label, at_label_same, at_label_other}
+use Rattle.bl_duality.proofs.Regroup.{sum_of_one, at_label_same, at_label_other}
 use Rattle.bl_duality.proofs.WholeRows.{whole_values, row_solved}
 
 -- how far column j of the point is from its start
@@ -149,7 +148,7 @@ cost_term q x j =
     omega (arith, ints)
 
 -- a sum of differences is the difference of the sums
-sum_of_differences : (n : ℕ) (f g : ℕ → ℤ) → sum_below n (λ j. f j -ℤ g j) ≡ sum_below n f -ℤ sum_below n g
+pub sum_of_differences : (n : ℕ) (f g : ℕ → ℤ) → sum_below n (λ j. f j -ℤ g j) ≡ sum_below n f -ℤ sum_below n g
 sum_of_differences n f g =
     let e = sum_below-add n (λ j. f j -ℤ g j) g in
     let h = sum_below-agree n (λ j. (f j -ℤ g j) +ℤ g j) f (λ j b. omega (arith, ints)) in

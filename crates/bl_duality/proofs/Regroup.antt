@@ -1,6 +1,6 @@
 -- A sum by place regrouped by label: each label counts once, with the coefficient of the place that it labels.
-use Rattle.std.proofs.Common.{◌≡◌, ◌≢◌, ℕ, zero, suc, ◌<◌, ◌≤◌, inl, inr, ℤ, pos, ◌+ℤ◌, ◌*ℤ◌, cond, refl, sym, ap, ◌∙◌}
-use Rattle.std.proofs.Common.{subst, arith}
+use Rattle.std.proofs.Common.{◌≡◌, ◌≢◌, ℕ, zero, suc, ◌<◌, inl, inr, Bool, true, false, cond, ℤ, pos, ◌+ℤ◌, ◌*ℤ◌}
+use Rattle.std.proofs.Common.{refl, sym, ap, ◌∙◌, arith}
 use Rattle.std.specs.Prelude.{Option, Some, None, unwrap_or, option_map, ◌==◌}
 use Rattle.std.proofs.Math.IntN.{zero-*ℤ}
 use Rattle.std.proofs.lemmas.Int.{ints}
@@ -30,17 +30,17 @@ coefficient_of_none (suc n) g label base l none =
     found_before n g label base l (none n (omega arith))
     ∙ coefficient_of_none n g label base l (λ j h. none j (omega arith))
 
--- a property of every coefficient, from those of the places and of `base`
-pub each_coefficient : (P : ℤ → Type 0) (n : ℕ) (g : ℕ → ℤ) (label : ℕ → ℕ) (base : ℕ → ℤ) (l : ℕ)
-    → ((j : ℕ) → j < n → P (g j)) → P (base l) → P (coefficient n g label base l)
-each_coefficient P zero g label base l each last = last
-each_coefficient P (suc n) g label base l each last =
-    elim (cases_eq (label n) l) [
-      | inl e ↦ subst (λ k. P (coefficient (suc n) g label base k)) e
-          (subst P (sym (found_here n g label base)) (each n (omega arith)))
-      | inr ne ↦ subst P (sym (found_before n g label base l ne))
-          (each_coefficient P n g label base l (λ j h. each j (omega arith)) last)
-    ]
+-- a property of what is looked up by label, from those of the places and of what stands for none
+pub each_found : {A : Type 0} (P : A → Type 0) (n : ℕ) (p : ℕ → A) (label : ℕ → ℕ) (l : ℕ) (x : A)
+    → ((j : ℕ) → j < n → P (p j)) → P x → P (unwrap_or (option_map p (labelled n label l)) x)
+each_found P zero p label l x each last = last
+each_found P (suc n) p label l x each last =
+    by (label n == l) (each_found P n p label l x (λ j h. each j (omega arith)) last)
+  where
+    by : (t : Bool) → P (unwrap_or (option_map p (labelled n label l)) x)
+        → P (unwrap_or (option_map p (cond t (Some n) (labelled n label l))) x)
+    by true before = each n (omega arith)
+    by false before = before
 
 -- a sum with one summand other than 0
 pub sum_of_one : (n k : ℕ) (f : ℕ → ℤ) → k < n → ((l : ℕ) → l < n → l ≢ k → f l ≡ pos 0) → sum_below n f ≡ f k

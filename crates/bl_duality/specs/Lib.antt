@@ -1,0 +1,2 @@
+-- Laws is trusted: what closing dictionaries prove.
+pub mod Laws
