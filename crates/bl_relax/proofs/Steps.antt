@@ -11,6 +11,7 @@ use Rattle.bl_simplex.specs.Licences.{IsPointPastLimit, pivot_limit}
 use Rattle.bl_tableau.specs.Runs.{Run, current}
 use Rattle.bl_licence.specs.Steps.{MayPivot}
 use Rattle.bl_duality.proofs.Labels.{permuted}
+use Rattle.bl_duality.proofs.CostSigns.{steps_narrow}
 use Rattle.bl_relax.specs.Runs.{IsRunOfSteps}
 use Rattle.bl_relax.specs.Choices.{AreDistinct}
 
@@ -81,11 +82,6 @@ passes_by_point q u run ps so past e =
     subst (PassesNumbers q u) (sym e) (record { steps = so.steps; ending = inr (subst Past so.problem past) })
 
 -- ---- the labels of a run's columns
-
-pub steps_narrow : (q : Problem) (u : Option ℤ) (d : Dictionary) (ps : List (ℕ × ℕ)) → AreSteps q u d ps
-    → AllNarrow q d ps
-steps_narrow q u d [] h = tt
-steps_narrow q u d (p ∷ ps) h = (h.0.narrow, steps_narrow q u (pivoted d p.0 p.1) ps h.1)
 
 pub columns_distinct : (q : Problem) (u : Option ℤ) (run : Run) → IsRunOfSteps q u run
     → AreDistinct (columns run.problem) (current run).column_label

@@ -1,7 +1,7 @@
 -- The basic values of a dictionary solve it: the columns' variables are 0, and each row's is its right side.
 use Rattle.std.proofs.Common.{◌≡◌, ◌≢◌, ℕ, zero, suc, ◌+◌, ◌*◌, ◌<◌, ◌≤◌, inl, inr, List, [], ◌∷◌, length, map, ℤ, pos}
 use Rattle.std.proofs.Common.{◌-ℤ◌, ◌*ℤ◌, ◌≤ℤ◌, refl, sym, ap, ◌∙◌, subst, arith}
-use Rattle.std.specs.Prelude.{Option, Some, None, ◌==◌, unwrap_or, option_map, if◌then◌else◌, Bool, true, false, cond}
+use Rattle.std.specs.Prelude.{Option, Some, None, ◌==◌, unwrap_or, option_map, if◌then◌else◌}
 use Rattle.std.specs.List.{range_with_len}
 use Rattle.std.proofs.Math.IntN.{*ℤ-zero, zero-*ℤ, pos-*ℤ-pos}
 use Rattle.std.proofs.lemmas.Bool.{cases_eq, cond-true, cond-false}
@@ -13,14 +13,15 @@ use Rattle.bl_terms.specs.Bounds.{Problem}
 use Rattle.bl_simplex.specs.Fractions.{Fraction, whole_fraction}
 use Rattle.bl_simplex.specs.Rationals.{fraction_at, rational_product, rational_total}
 use Rattle.bl_simplex.specs.Dictionaries.{Dictionary, columns, cost_row, opening}
-use Rattle.bl_simplex.specs.Pivots.{pivoted, replay, AllNarrow}
+use Rattle.bl_simplex.specs.Pivots.{replay}
 use Rattle.bl_simplex.specs.Closing.{labelled, basic_value}
 use Rattle.bl_simplex.specs.Licences.{AreSteps, IsFeasible}
 use Rattle.bl_tableau.specs.Solutions.{SolvesRow, Solves, AreRational}
-use Rattle.bl_tableau.proofs.PivotLaw.{ArePositive, positive_after}
-use Rattle.bl_tableau.proofs.ReplayProof.{row_label_other}
+use Rattle.bl_tableau.proofs.PivotLaw.{ArePositive}
 use Rattle.bl_tableau.proofs.RowSteps.{test_same, test_other}
 use Rattle.bl_duality.proofs.Labels.{variables, ArePermuted, permuted}
+use Rattle.bl_duality.proofs.Regroup.{each_found}
+use Rattle.bl_duality.proofs.CostSigns.{reached, steps_narrow}
 
 -- ---- what is looked up by label
 
@@ -43,60 +44,22 @@ labelled_none (suc n) label l h =
     cond-false (label n == l) _ _ (test_other (label n) l (h n (omega arith)))
     ∙ labelled_none n label l (λ k b. h k (omega arith))
 
-each_found : {A : Type 0} (P : A → Type 0) (n : ℕ) (p : ℕ → A) (label : ℕ → ℕ) (l : ℕ) (x : A)
-    → ((j : ℕ) → j < n → P (p j)) → P x → P (unwrap_or (option_map p (labelled n label l)) x)
-each_found P zero p label l x each last = last
-each_found P (suc n) p label l x each last =
-    by (label n == l) (each_found P n p label l x (λ j h. each j (omega arith)) last)
-  where
-    by : (t : Bool) → P (unwrap_or (option_map p (labelled n label l)) x)
-        → P (unwrap_or (option_map p (cond t (Some n) (labelled n label l))) x)
-    by true before = each n (omega arith)
-    by false before = before
-
 -- ---- dictionaries that steps lead to
 
-pub steps_narrow : (q : Problem) (u : Option ℤ) (d : Dictionary) (ps : List (ℕ × ℕ)) → AreSteps q u d ps
-    → AllNarrow q d ps
-steps_narrow q u d [] h = tt
-steps_narrow q u d (p ∷ ps) h = (h.0.narrow, steps_narrow q u (pivoted d p.0 p.1) ps h.1)
-
-positive_replay : (q : Problem) (d : Dictionary) (ps : List (ℕ × ℕ)) → AllNarrow q d ps → ArePositive q d
-    → ArePositive q (replay d ps)
-positive_replay q d [] narrow h = h
-positive_replay q d (p ∷ ps) narrow h =
-    positive_replay q (pivoted d p.0 p.1) ps narrow.1 (positive_after q d p.0 p.1 narrow.0 h)
-
-opening_positive : (q : Problem) → ArePositive q (opening q)
-unfolding opening
-opening_positive q = record { each = λ i j hi hj. omega arith }
-
--- the cost row keeps its label
-cost_stays : (q : Problem) (u : Option ℤ) (d : Dictionary) (ps : List (ℕ × ℕ)) → AreSteps q u d ps
-    → (replay d ps).row_label (cost_row q) ≡ d.row_label (cost_row q)
-cost_stays q u d [] h = refl
-cost_stays q u d (p ∷ ps) h =
-    let other : cost_row q ≢ p.0 = (let r = h.0.legal.row_in in omega arith) in
-    cost_stays q u (pivoted d p.0 p.1) ps h.1 ∙ row_label_other d p.0 p.1 (cost_row q) other
-
-opening_cost : (q : Problem) → (opening q).row_label (cost_row q) ≡ columns q + cost_row q
-unfolding opening
-opening_cost q = refl
-
--- what holds of each dictionary that steps lead to
-pub record IsReached (q : Problem) (d : Dictionary) : Type 0 where
+-- each variable has one label, denominators are positive, and the cost row keeps its label
+pub record IsBasis (q : Problem) (d : Dictionary) : Type 0 where
   pub labels : ArePermuted q d
   pub positive : ArePositive q d
   pub cost_label : d.row_label (cost_row q) ≡ columns q + cost_row q
 
-pub reached : (q : Problem) (u : Option ℤ) (ps : List (ℕ × ℕ)) → AreSteps q u (opening q) ps
-    → IsReached q (replay (opening q) ps)
-reached q u ps h =
-    let narrow = steps_narrow q u (opening q) ps h in
+pub steps_to_basis : (q : Problem) (u : Option ℤ) (pivots : List (ℕ × ℕ)) → AreSteps q u (opening q) pivots
+    → IsBasis q (replay (opening q) pivots)
+steps_to_basis q u pivots steps =
+    let r = reached q u pivots steps in
     record {
-      labels = permuted q ps narrow;
-      positive = positive_replay q (opening q) ps narrow (opening_positive q);
-      cost_label = cost_stays q u (opening q) ps h ∙ opening_cost q;
+      labels = permuted q pivots (steps_narrow q u (opening q) pivots steps);
+      positive = r.positive;
+      cost_label = r.label;
     }
 
 -- ---- the basic values, and that of the cost row
@@ -152,7 +115,7 @@ value_positive q d l h b =
 pub list_rational : (q : Problem) (d : Dictionary) → ArePositive q d → AreRational (vertex_list q d)
 list_rational q d h = record { each = λ k b. value_positive q d k h (omega (arith, list_length q d)) }
 
-row_value : (q : Problem) (d : Dictionary) (i : ℕ) → IsReached q d → i ≤ cost_row q
+row_value : (q : Problem) (d : Dictionary) (i : ℕ) → IsBasis q d → i ≤ cost_row q
     → fraction_at (vertex_list q d) (d.row_label i) ≡ d.place i (columns q)
 row_value q d i h hi =
     elim (cases_eq i (cost_row q)) [
@@ -170,7 +133,7 @@ row_value q d i h hi =
           (λ k l e. h.labels.rows_apart k i (omega arith) hi e))
     ]
 
-column_value : (q : Problem) (d : Dictionary) (j : ℕ) → IsReached q d → j < columns q
+column_value : (q : Problem) (d : Dictionary) (j : ℕ) → IsBasis q d → j < columns q
     → fraction_at (vertex_list q d) (d.column_label j) ≡ whole_fraction (pos 0)
 column_value q d j h hj =
     let other : d.column_label j ≢ columns q + cost_row q =
@@ -214,7 +177,7 @@ row_alone n d x i own noughts =
           ∙ ap (λ f. (a.num *ℤ pos t.den -ℤ t.num *ℤ pos a.den) *ℤ pos f.den) (sym own);
     }
 
-pub vertex_solves : (q : Problem) (d : Dictionary) → IsReached q d → Solves q d (vertex_list q d)
+pub vertex_solves : (q : Problem) (d : Dictionary) → IsBasis q d → Solves q d (vertex_list q d)
 vertex_solves q d h = record {
   each = λ i hi.
       row_alone (columns q) d (fraction_at (vertex_list q d)) i (row_value q d i h hi)

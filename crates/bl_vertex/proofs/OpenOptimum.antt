@@ -21,9 +21,10 @@ use Rattle.bl_tableau.proofs.ReplayInduction.{replay_law}
 use Rattle.bl_licence.specs.Steps.{scaled_column, IsScaledPoint, IsBetween}
 use Rattle.bl_licence.proofs.Multiples.{common_positive, common_divides, dens_positive}
 use Rattle.bl_licence.proofs.Points.{Setting, RowsPass, CostPasses, fractional_from_test, at_most_over}
+use Rattle.bl_duality.proofs.CostSigns.{steps_narrow}
 use Rattle.bl_vertex.specs.Optima.{IsOpenOptimum, AreAllWhole, IsPointAt, FractionalOptimum, WholeOptimum}
 use Rattle.bl_vertex.proofs.BasicValues.{vertex_list, vertex_solves, value_of, value_of_cost, value_positive, basic_least}
-use Rattle.bl_vertex.proofs.BasicValues.{list_rational, steps_narrow, IsReached, reached}
+use Rattle.bl_vertex.proofs.BasicValues.{list_rational, IsBasis, steps_to_basis}
 use Rattle.bl_vertex.proofs.OpeningRows.{IsOpened, scaled_value, row_met, column_in_range, cost_over}
 
 module _ (q : Problem) (u : Option ℤ) (pivots : List (ℕ × ℕ)) (fs : List Fraction) (f : Fits q)
@@ -38,8 +39,8 @@ module _ (q : Problem) (u : Option ℤ) (pivots : List (ℕ × ℕ)) (fs : List 
   abbrev common : ℕ
   common = common_denominator (columns q) (fraction_at fs)
 
-  is_reached : IsReached q last
-  is_reached = reached q u pivots h.steps
+  basis : IsBasis q last
+  basis = steps_to_basis q u pivots h.steps
 
   column_value : (j : ℕ) → j < columns q → value j ≡ fraction_at fs j
   unfolding value
@@ -52,11 +53,11 @@ module _ (q : Problem) (u : Option ℤ) (pivots : List (ℕ × ℕ)) (fs : List 
   unfolding value
   opened = record {
     some = common_positive (columns q) (fraction_at fs) column_positive;
-    positive = λ l b. value_positive q last l is_reached.positive (omega arith);
+    positive = λ l b. value_positive q last l basis.positive (omega arith);
     divides = λ j l. subst (λ x. x.den ∣ common) (sym (column_value j l))
         (common_divides (columns q) (fraction_at fs) j l);
     solved = ((replay_law q pivots (vertex_list q last) (steps_narrow q u (opening q) pivots h.steps)
-        (list_rational q last is_reached.positive)).1 (vertex_solves q last is_reached)).each;
+        (list_rational q last basis.positive)).1 (vertex_solves q last basis)).each;
   }
 
   value_least : (l : ℕ) → l < columns q + cost_row q → pos 0 ≤ℤ (value l).num
