@@ -1,5 +1,5 @@
 -- What the last dictionary of a run gives.
-use Rattle.std.proofs.Common.{◌≡◌, ◌≢◌, ℕ, ◌<◌, ◌≤◌, ◌^◌, inl, inr, List, length, ℤ, pos, ◌-ℤ◌, ◌≤ℤ◌, ◌<ℤ◌, refl, sym, ap}
+use Rattle.std.proofs.Common.{◌≡◌, ◌≢◌, ℕ, ◌<◌, ◌≤◌, inl, inr, List, length, ℤ, pos, ◌-ℤ◌, ◌≤ℤ◌, refl, sym, ap}
 use Rattle.std.proofs.Common.{◌∙◌, subst, arith}
 use Rattle.std.specs.Prelude.{Option, Some, None, MatchOption, Result, Ok, Err, IfOk}
 use Rattle.std.proofs.lemmas.Int.{ints}
@@ -11,7 +11,7 @@ use Rattle.bl_simplex.specs.Dictionaries.{Dictionary, columns, opening}
 use Rattle.bl_simplex.specs.Pivots.{replay}
 use Rattle.bl_simplex.specs.Closing.{Closes, ClosesByRow, ClosesByCost, IsFirstClosingRow, PassLimit, row_multiplier}
 use Rattle.bl_simplex.specs.Closing.{cost_multiplier, basic_value}
-use Rattle.bl_simplex.specs.Licences.{AreSteps, IsFeasible, IsFractional, PassesNumbers}
+use Rattle.bl_simplex.specs.Licences.{IsFeasible, IsFractional, PassesNumbers}
 use Rattle.bl_bound.specs.Plain.{IsBetterPoint}
 use Rattle.bl_whole.specs.Sums.{component}
 use Rattle.bl_tableau.specs.Runs.{Run, current}

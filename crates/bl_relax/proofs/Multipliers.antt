@@ -1,11 +1,10 @@
 -- Multipliers of a dictionary, made whole.
-use Rattle.std.proofs.Common.{◌≡◌, ℕ, ◌<◌, List, length, ℤ, pos, to_z, sym, ap, ◌∙◌, subst, arith}
+use Rattle.std.proofs.Common.{◌≡◌, ℕ, List, length, ℤ, pos, to_z, sym, ap, ◌∙◌, subst, arith}
 use Rattle.std.specs.Int.{w64}
 use Rattle.std.proofs.lemmas.Int.{ints, to_z_pos}
-use Rattle.bl_whole.specs.Sums.{component}
 use Rattle.bl_terms.specs.Bounds.{Problem, Multipliers}
 use Rattle.bl_simplex.specs.Fractions.{Fraction}
-use Rattle.bl_simplex.specs.Rationals.{fraction_at, common_denominator, times_multiple}
+use Rattle.bl_simplex.specs.Rationals.{fraction_at, common_denominator}
 use Rattle.bl_simplex.specs.Closing.{PassLimit}
 use Rattle.bl_licence.specs.Steps.{AreWhole, PassesLimit, IsListOf}
 use Rattle.bl_licence.proofs.Limits.{list_common, passes_list}

@@ -1,7 +1,8 @@
 -- The ratio test picks one candidate: it orders the candidates, no two of which have one label.
-use Rattle.std.proofs.Common.{◌≡◌, ◌≢◌, ℕ, ◌+◌, ◌<◌, ◌⊎◌, inl, inr, Less, Equal, Greater, ℤ, pos, ◌-ℤ◌, ◌*ℤ◌, ◌<ℤ◌, ◌≤ℤ◌, [], ◌∷◌}
+use Rattle.std.proofs.Common.{◌≡◌, ◌≢◌, ℕ, ◌+◌, ◌<◌, ◌⊎◌, inl, inr, Less, Equal, Greater, ℤ, pos, ◌-ℤ◌, ◌*ℤ◌, ◌<ℤ◌}
+use Rattle.std.proofs.Common.{◌≤ℤ◌, [], ◌∷◌}
 use Rattle.std.proofs.Common.{refl, sym, ap, ◌∙◌, subst, arith}
-use Rattle.std.specs.Prelude.{Option, Some, None, IsSome, MatchOption}
+use Rattle.std.specs.Prelude.{Option, Some, None}
 use Rattle.std.specs.declared.cmp.Ordering.{Ordering}
 use Rattle.std.specs.Ordering.{int_cmp, MatchOrdering}
 use Rattle.std.specs.Cmp.{int_cmp_is, int_ranks}
@@ -11,7 +12,7 @@ use Rattle.bl_whole.specs.Identities.{variable, times}
 use Rattle.bl_whole.proofs.IdentityLemmas.{identity}
 use Rattle.bl_whole.proofs.Products.{*ℤ--ℤ, mul_positive, mul_le_left, lt_of_mul_lt, le_of_mul_le}
 use Rattle.bl_simplex.specs.Fractions.{Fraction, order_of}
-use Rattle.bl_simplex.specs.LegalPivots.{ratio_of, IsCandidate, WinsRatioTest, IsEntering}
+use Rattle.bl_simplex.specs.LegalPivots.{ratio_of, IsCandidate, WinsRatioTest}
 use Rattle.bl_relax.specs.declared.choice.Candidate.{Candidate}
 use Rattle.bl_relax.specs.Choices.{AreDistinct, HasNoCandidate, IsRatioOf, Wins, IsWinner, LosesTo, IsBest, IsBestSoFar}
 
@@ -220,7 +221,8 @@ module _ (size n : ℕ) (costs entries : ℕ → Fraction) (label : ℕ → ℕ)
   pub one_more : (best : Option Candidate) (next w : Candidate) → IsBestSoFar n costs entries label best
       → (entries n).num <ℤ pos 0 → IsRatioOf costs entries label n next → IsWinner best next w
       → IsBest (n + 1) costs entries label w
-  one_more None next w none less r e = subst (IsBest (n + 1) costs entries label) (sym e) (first_is_best next none less r)
+  one_more None next w none less r e =
+      subst (IsBest (n + 1) costs entries label) (sym e) (first_is_best next none less r)
   one_more (Some best) next w b less r (inl (wins, e)) =
       subst (IsBest (n + 1) costs entries label) (sym e) (winner_is_best best next b less r wins)
   one_more (Some best) next w b less r (inr (loses, e)) =

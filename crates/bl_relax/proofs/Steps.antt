@@ -1,10 +1,10 @@
 -- A run of steps, and one more.
-use Rattle.std.proofs.Common.{◌≡◌, ℕ, ◌+◌, ◌<◌, ◌≤◌, inl, inr, List, [], ◌∷◌, ◌++◌, length, false, refl, sym, ap, ◌∙◌}
+use Rattle.std.proofs.Common.{◌≡◌, ℕ, inl, inr, List, [], ◌∷◌, ◌++◌, length, false, sym, ap, ◌∙◌}
 use Rattle.std.proofs.Common.{subst}
 use Rattle.std.specs.Prelude.{Option, ℤ}
 use Rattle.bl_terms.specs.Bounds.{Problem}
 use Rattle.bl_simplex.specs.Dictionaries.{Dictionary, columns, opening}
-use Rattle.bl_simplex.specs.Pivots.{pivoted, replay, IsNarrowPivot, AllNarrow, FailsFirstAt}
+use Rattle.bl_simplex.specs.Pivots.{pivoted, replay, IsNarrowPivot, FailsFirstAt}
 use Rattle.bl_simplex.specs.Closing.{Closes}
 use Rattle.bl_simplex.specs.Licences.{IsStep, AreSteps, PassesWidth, PassesPivots, PassesNumbers, ClosesPastLimit}
 use Rattle.bl_simplex.specs.Licences.{IsPointPastLimit, pivot_limit}

@@ -1,5 +1,5 @@
 -- Internal: the candidates of the dual ratio test, one after the other.
-use Rattle.std.specs.Prelude.{◌≡◌, ◌≢◌, ℕ, ◌<◌, ◌⊎◌, Option, Some, None, MatchOption}
+use Rattle.std.specs.Prelude.{◌≡◌, ℕ, ◌<◌, ◌⊎◌, Option, Some, None, MatchOption}
 use Rattle.bl_simplex.specs.Fractions.{Fraction, IsReduced}
 use Rattle.bl_simplex.specs.LegalPivots.{ratio_of, IsCandidate, WinsRatioTest}
 use Rattle.bl_relax.specs.declared.choice.Candidate.{Candidate}

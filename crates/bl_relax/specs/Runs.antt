@@ -21,7 +21,8 @@ pub record IsRunOfSteps (q : Problem) (u : Option ℤ) (run : Run) : Type 0 wher
 abbrev pub IsAtEnd : Problem → Option ℤ → Dictionary → Type 0
 IsAtEnd q u d = Closes q u d ⊎ IsFeasible q d
 
--- the proof is these multipliers of the rows, made whole within the limit of proof numbers, with this weight of the cost
+-- the proof has these multipliers of the rows, made whole within the limit of proof numbers, and this weight of the
+-- cost
 pub record IsProofOf (q : Problem) (den : ℤ) (f : ℕ → Fraction) (proof : Multipliers) : Type 0 where
   pub weight : proof.den ≡ den
   pub within : ¬ PassLimit q f

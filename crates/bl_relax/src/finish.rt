@@ -5,7 +5,7 @@ ghost use Rattle.bl_terms.specs.Bounds.{Fits};
 ghost use Rattle.bl_bound.specs.Plain.{IsBetterPoint};
 ghost use Rattle.bl_simplex.specs.Dictionaries.{columns};
 ghost use Rattle.bl_simplex.specs.Closing.{Closes, ClosesByRow, row_multiplier, cost_multiplier, PassLimit};
-ghost use Rattle.bl_simplex.specs.Licences.{IsFeasible};
+ghost use Rattle.bl_simplex.specs.Licences.{IsFeasible, PassesNumbers};
 ghost use Rattle.bl_simplex.specs.Rationals.{common_denominator as common_of};
 ghost use Rattle.bl_tableau.specs.Runs.{current};
 ghost use Rattle.bl_vertex.specs.Optima.{IsOpenOptimum};
@@ -136,6 +136,29 @@ fn point_answer(
     }
 }
 
+/// The answer of an optimum whose numbers pass their limit: a whole point near it, or the licence of those numbers.
+fn large_answer(
+    alloc: Global,
+    problem: &Problem<'_>,
+    cutoff: Option<i64>,
+    tableau: &Tableau<'_, '_>,
+    distances: &[Frac],
+) -> Result<Relaxed, AllocError>
+    requires problem_fits { Fits problem.now }
+    requires size { length distances.now ≡ length problem.now.area.lo }
+    requires numbers { PassesNumbers problem.now cutoff tableau.now.pivots }
+    ensures { IfOk result (IsRelaxed problem.now cutoff) }
+{
+    let near = whole_near(alloc, problem, cutoff, distances)?;
+    match near {
+        Some(point) => Ok(Relaxed::Whole(Listed::new(point))),
+        None => {
+            let pivots = pivots_of(alloc, tableau)?;
+            Ok(Relaxed::Stuck(Why::Large { pivots }))
+        }
+    }
+}
+
 /// The answer of an open optimum.
 fn optimum_answer(
     alloc: Global,
@@ -152,10 +175,7 @@ fn optimum_answer(
     let distances = basic_values(alloc, tableau)?;
     match common_denominator(&distances) {
         Some(_) => point_answer(alloc, problem, cutoff, distances),
-        None => {
-            let pivots = pivots_of(alloc, tableau)?;
-            Ok(Relaxed::Stuck(Why::Large { pivots }))
-        }
+        None => large_answer(alloc, problem, cutoff, tableau, &distances),
     }
 }
 

@@ -52,6 +52,26 @@ fn a_vertex_and_its_proof(rt: HostRuntime) -> Result<(), Fail> {
     Ok(())
 }
 
+// Minimise x + y for x and y from 0 to 1: the rows ask for x + y >= 3, or x >= 1/p and y >= 1/r where no whole number
+// up to 2^50 is a multiple of both.
+#[test]
+fn no_point_and_large_numbers(rt: HostRuntime) -> Result<(), Fail> {
+    let (cost, lo, hi) = ([1, 1], [0, 0], [1, 1]);
+    let (sum, first, second) = ([-1, -1], [-33_554_393, 0], [0, -67_108_859]);
+    let mut empty = Problem::start(rt.alloc(), &cost, &lo, &hi);
+    empty.row(&sum, -3)?;
+    match &answer(&rt, rt.alloc(), &empty, None)? {
+        Relaxed::Closed(proof) => assert_eq!(rt; proof.den, 0),
+        _ => assert!(rt; false),
+    }
+    let mut large = Problem::start(rt.alloc(), &cost, &lo, &hi);
+    large.row(&first, -1)?;
+    large.row(&second, -1)?;
+    let stuck = answer(&rt, rt.alloc(), &large, Some(2))?;
+    assert!(rt; matches!(stuck, Relaxed::Stuck(Why::Large { .. })));
+    Ok(())
+}
+
 // Three rows p·X >= 1 with large primes and near primes: the sum of six reciprocals passes 128 bits.
 fn add_rows<'a>(problem: &mut Problem<'a>, coefs: &'a [[i64; 7]; 3]) -> Result<(), AllocError>
     requires { length problem.old.area.lo ≡ 7 }
@@ -66,14 +86,12 @@ fn add_rows<'a>(problem: &mut Problem<'a>, coefs: &'a [[i64; 7]; 3]) -> Result<(
 // How many pivots were taken, and the place at which the last one passed 128 bits.
 fn wide_place(answer: &Relaxed) -> Option<(usize, u32, u32)> {
     match answer {
-        Some(
-            Relaxed::Stuck(
-                Why::Wide {
-                    pivots,
-                    row,
-                    column,
-                },
-            ),
+        Relaxed::Stuck(
+            Why::Wide {
+                pivots,
+                row,
+                column,
+            },
         ) => Some((pivots.as_slice().len(), *row, *column)),
         _ => None,
     }

@@ -91,7 +91,8 @@ pub value_of : (q : Problem) (d : Dictionary) (l : ℕ) → l < columns q + cost
     → fraction_at (vertex_list q d) l ≡ basic_value q d l
 value_of q d l h =
     let other : l ≢ columns q + cost_row q = omega arith in
-    list_at q d l (omega arith) ∙ cond-false (l == columns q + cost_row q) _ _ (test_other l (columns q + cost_row q) other)
+    list_at q d l (omega arith)
+    ∙ cond-false (l == columns q + cost_row q) _ _ (test_other l (columns q + cost_row q) other)
 
 pub basic_least : (q : Problem) (d : Dictionary) (l : ℕ) → IsFeasible q d → pos 0 ≤ℤ (basic_value q d l).num
 basic_least q d l h =

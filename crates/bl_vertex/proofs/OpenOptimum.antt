@@ -23,7 +23,8 @@ use Rattle.bl_licence.proofs.Multiples.{common_positive, common_divides, dens_po
 use Rattle.bl_licence.proofs.Points.{Setting, RowsPass, CostPasses, fractional_from_test, at_most_over}
 use Rattle.bl_duality.proofs.CostSigns.{steps_narrow}
 use Rattle.bl_vertex.specs.Optima.{IsOpenOptimum, AreAllWhole, IsPointAt, FractionalOptimum, WholeOptimum}
-use Rattle.bl_vertex.proofs.BasicValues.{vertex_list, vertex_solves, value_of, value_of_cost, value_positive, basic_least}
+use Rattle.bl_vertex.proofs.BasicValues.{vertex_list, vertex_solves, value_of, value_of_cost, value_positive}
+use Rattle.bl_vertex.proofs.BasicValues.{basic_least}
 use Rattle.bl_vertex.proofs.BasicValues.{list_rational, IsBasis, steps_to_basis}
 use Rattle.bl_vertex.proofs.OpeningRows.{IsOpened, scaled_value, row_met, column_in_range, cost_over}
 
@@ -109,7 +110,8 @@ module _ (q : Problem) (u : Option ℤ) (pivots : List (ℕ × ℕ)) (fs : List 
       (cost_at_most v unclosed))
 
 cost_passes : (q : Problem) (u : Option ℤ) (pivots : List (ℕ × ℕ)) (fs : List Fraction) (xs : List ℤ) → Fits q
-    → IsOpenOptimum q u pivots fs → IsScaledPoint q (common_denominator (columns q) (fraction_at fs)) (fraction_at fs) xs
+    → IsOpenOptimum q u pivots fs
+    → IsScaledPoint q (common_denominator (columns q) (fraction_at fs)) (fraction_at fs) xs
     → CostPasses q u (common_denominator (columns q) (fraction_at fs)) xs
 cost_passes q None pivots fs xs f h point = tt
 cost_passes q (Some v) pivots fs xs f h point =

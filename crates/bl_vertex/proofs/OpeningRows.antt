@@ -1,16 +1,18 @@
 -- The rows of the opening dictionary at rational values, over a common multiple of the columns' denominators.
-use Rattle.std.proofs.Common.{◌≡◌, ◌≢◌, ℕ, zero, suc, ◌+◌, ◌<◌, ◌≤◌, Bool, true, false, cond, List, [], ◌∷◌, length}
+use Rattle.std.proofs.Common.{◌≡◌, ◌≢◌, ℕ, zero, suc, ◌+◌, ◌*◌, ◌/◌, ◌<◌, ◌≤◌, Bool, true, false, cond, List, [], ◌∷◌}
+use Rattle.std.proofs.Common.{length}
 use Rattle.std.proofs.Common.{ℤ, pos, negsuc, neg_ℤ, ◌+ℤ◌, ◌-ℤ◌, ◌*ℤ◌, ◌≤ℤ◌, ◌<ℤ◌, unsigned_abs, refl, sym, ap, ◌∙◌}
 use Rattle.std.proofs.Common.{subst, arith}
 use Rattle.std.specs.Prelude.{int_lt}
 use Rattle.std.specs.Int.{◌∣◌}
-use Rattle.std.proofs.Math.IntN.{*ℤ_comm, zero-*ℤ}
+use Rattle.std.proofs.Math.Nat.{div-mul_cancel}
+use Rattle.std.proofs.Math.IntN.{*ℤ_comm, zero-*ℤ, pos-*ℤ-pos}
 use Rattle.std.proofs.lemmas.Int.{ints}
 use Rattle.bl_frac.proofs.Ratios.{not_below_zero}
 use Rattle.bl_whole.specs.Sums.{component, sum_below}
 use Rattle.bl_whole.specs.Identities.{variable, constant, plus, times}
 use Rattle.bl_whole.proofs.IdentityLemmas.{identity}
-use Rattle.bl_whole.proofs.Products.{one-*ℤ, -ℤ-*ℤ, neg_ℤ-*ℤ, mul_nonneg, le_of_mul_le}
+use Rattle.bl_whole.proofs.Products.{*ℤ_assoc, *ℤ_one, one-*ℤ, -ℤ-*ℤ, neg_ℤ-*ℤ, mul_nonneg, le_of_mul_le}
 use Rattle.bl_whole.proofs.SumLemmas.{sum_below-agree}
 use Rattle.bl_terms.specs.Bounds.{Problem, linear_at}
 use Rattle.bl_simplex.specs.Fractions.{Fraction, whole_fraction}
@@ -18,15 +20,42 @@ use Rattle.bl_simplex.specs.Rationals.{rational_difference, rational_product, ra
 use Rattle.bl_simplex.specs.Dictionaries.{columns, cost_row, descends, start_at, sign_at, at_start, opening_number}
 use Rattle.bl_simplex.specs.Dictionaries.{opening}
 use Rattle.bl_tableau.specs.Solutions.{SolvesRow}
-use Rattle.bl_tableau.proofs.Scaling.{IsOver, over_difference, over_total, over_same}
+use Rattle.bl_tableau.proofs.Scaling.{IsOver, over_difference, over_product, over_total, over_same}
+use Rattle.bl_tableau.proofs.RowEquations.{product_positive}
 use Rattle.bl_tableau.proofs.OpeningSteps.{entry_of_row, right_of_row, entry_of_range, right_of_range, entry_of_cost}
 use Rattle.bl_tableau.proofs.OpeningSteps.{right_of_cost}
 use Rattle.bl_tableau.proofs.RowSteps.{test_same, test_other}
 use Rattle.bl_licence.specs.Steps.{scaled_column}
-use Rattle.bl_licence.proofs.Points.{over_multiple, over_whole, over_scaled, total_positive, at_most_over}
+use Rattle.bl_licence.proofs.Points.{at_most_over}
 use Rattle.bl_duality.proofs.Regroup.{sum_of_one}
 
--- the value of coefficients at columns that are moved from their starts
+-- ---- fractions over a common multiple
+
+over_multiple : (m : ℕ) (f : Fraction) → f.den ∣ m → IsOver m f (times_multiple m f)
+over_multiple m f h = record {
+  scaled = ap (λ n. f.num *ℤ pos n) (sym (div-mul_cancel f.den h))
+      ∙ ap (λ z. f.num *ℤ z) (sym (pos-*ℤ-pos (m / f.den) f.den)) ∙ sym (*ℤ_assoc f.num (pos (m / f.den)) (pos f.den));
+}
+
+over_whole : (m : ℕ) (z : ℤ) → IsOver m (whole_fraction z) (z *ℤ pos m)
+over_whole m z = record { scaled = sym (*ℤ_one (z *ℤ pos m)) }
+
+over_scaled : (m : ℕ) (a : ℤ) (f : Fraction) (z : ℤ) → IsOver m f z
+    → IsOver m (rational_product (whole_fraction a) f) (a *ℤ z)
+over_scaled m a f z h =
+    let e : 1 * m ≡ m = omega arith in
+    let one : IsOver 1 (whole_fraction a) a = record { scaled = refl } in
+    subst (λ n. IsOver n (rational_product (whole_fraction a) f) (a *ℤ z)) e
+    (over_product 1 m (whole_fraction a) f a z one h)
+
+total_positive : (n : ℕ) (f : ℕ → Fraction) → ((j : ℕ) → j < n → 0 < (f j).den) → 0 < (rational_total n f).den
+total_positive zero f h = omega arith
+total_positive (suc n) f h =
+    product_positive (rational_total n f).den (f n).den (total_positive n f (λ j l. h j (omega arith)))
+    (h n (omega arith))
+
+-- ---- coefficients at columns that are moved from their starts
+
 moved_sum : (n : ℕ) (c s g x : ℕ → ℤ) (m : ℤ)
     → sum_below n (λ j. c j *ℤ (s j *ℤ m +ℤ g j *ℤ x j))
     ≡ sum_below n (λ j. c j *ℤ s j) *ℤ m +ℤ sum_below n (λ j. (c j *ℤ g j) *ℤ x j)
@@ -113,7 +142,8 @@ module _ (q : Problem) (x : ℕ → Fraction) (m : ℕ) (o : IsOpened q x m) whe
       → sum_below (columns q) (λ j. opening_number q i j *ℤ times_multiple m (x j))
       ≤ℤ (opening_number q i (columns q) *ℤ pos m)
   row_least i hi least =
-      let v = over_least m (x (columns q + i)) _ o.some (o.positive (columns q + i) (omega arith)) (row_over i hi) least in
+      let v = over_least m (x (columns q + i)) _ o.some (o.positive (columns q + i) (omega arith)) (row_over i hi)
+      least in
       omega (arith, ints)
 
   scaled_is : (cs : List ℤ) → length cs ≡ columns q
@@ -165,7 +195,8 @@ module _ (q : Problem) (x : ℕ → Fraction) (m : ℕ) (o : IsOpened q x m) whe
   cost_over size =
       let n = columns q in
       let f : ℕ → ℤ = λ j. (component q.cost j *ℤ sign_at q j) *ℤ times_multiple m (x j) in
-      let entries : sum_below n (λ j. opening_number q (cost_row q) j *ℤ times_multiple m (x j)) ≡ neg_ℤ (sum_below n f) =
+      let entries : sum_below n (λ j. opening_number q (cost_row q) j *ℤ times_multiple m (x j))
+      ≡ neg_ℤ (sum_below n f) =
       sum_below-agree n _ _ (λ j l.
       ap (λ a. a *ℤ times_multiple m (x j))
       (entry_of_cost q j l ∙ ap neg_ℤ (abs_by_sign (descends q j) (component q.cost j) refl))

@@ -1,4 +1,4 @@
-use Rattle.std.proofs.Common.{rules, ◌≡◌, ◌+◌, ◌<◌, pos, ◌<ℤ◌, sym, ap, subst, arith, false}
+use Rattle.std.proofs.Common.{rules, ◌+◌, ◌<◌, pos, ◌<ℤ◌, sym, subst, arith}
 use Rattle.bl_simplex.specs.Dictionaries.{columns, cost_row}
 use Rattle.bl_tableau.specs.Runs.{current}
 use Rattle.bl_relax.specs.Choices.{IsBestSoFar}

@@ -1,5 +1,4 @@
-use Rattle.std.proofs.Common.{rules, ◌≡◌, List, sym, ap, refl, ◌∙◌}
-use Rattle.bl_simplex.specs.Fractions.{Fraction}
+use Rattle.std.proofs.Common.{refl}
 use Rattle.bl_vertex.specs.Optima.{AreAllWhole}
 use Rattle.bl_relax.proofs.LastAnswers.{in_box, all_whole, whole_answer, split_answer}
 use Rattle.bl_relax.proofs.finish.point_answer.Goals as goal
@@ -17,7 +16,8 @@ returns-then-are_whole c =
     let ds = c.deref-then-are_whole.result.now in
     let e = c.deref-then-are_whole.ensures.value in
     let all : AreAllWhole q ds =
-    all_whole q u fs c.deref.result.now ds c.requires.optimum c.deref.ensures.value e (c.if-are_whole.ensures.whole refl) in
+    all_whole q u fs c.deref.result.now ds c.requires.optimum c.deref.ensures.value e
+    (c.if-are_whole.ensures.whole refl) in
     whole_answer q u fs ds c.new.result c.requires.problem_fits c.requires.optimum e all
     (rw c.new.ensures c.in_ok-point.ensures)
 

@@ -1,4 +1,4 @@
-use Rattle.std.proofs.Common.{◌≡◌, pos, refl}
+use Rattle.std.proofs.Common.{pos, refl}
 use Rattle.bl_simplex.specs.Closing.{row_multiplier}
 use Rattle.bl_tableau.specs.Runs.{current}
 use Rattle.bl_relax.proofs.Multipliers.{no_proof, proof_of}

@@ -1,13 +1,12 @@
-use Rattle.std.proofs.Common.{rules, ◌≡◌, ◌+◌, ◌<◌, cond, pos, negsuc, ◌-ℤ◌, ◌+ℤ◌, ◌*ℤ◌, to_z, of_z}
-use Rattle.std.proofs.Common.{FitsSigned, ◌∙◌, sym, ap, subst, arith}
-use Rattle.std.specs.Prelude.{slice_index_or, int_lt}
+use Rattle.std.proofs.Common.{rules, ◌≡◌, ◌<◌, pos, to_z, of_z}
+use Rattle.std.proofs.Common.{FitsSigned, ◌∙◌, ap, arith}
+use Rattle.std.specs.Prelude.{slice_index_or}
 use Rattle.std.specs.Int.{w64}
 use Rattle.std.proofs.lemmas.Int.{to_z-of_z}
 use Rattle.std.proofs.lemmas.List.{get_or_read}
 use Rattle.bl_whole.specs.Sums.{component}
-use Rattle.bl_simplex.specs.Fractions.{Fraction}
 use Rattle.bl_simplex.specs.Rationals.{fraction_at}
-use Rattle.bl_simplex.specs.Dictionaries.{columns, start_at, sign_at}
+use Rattle.bl_simplex.specs.Dictionaries.{columns}
 use Rattle.bl_licence.proofs.Multiples.{zero_fraction}
 use Rattle.bl_relax.proofs.WholePoints.{point_more, range_read, column_read}
 use Rattle.bl_relax.proofs.point.whole_point.Goals as goal

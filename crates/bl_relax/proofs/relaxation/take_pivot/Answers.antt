@@ -1,4 +1,4 @@
-use Rattle.std.proofs.Common.{rules, ◌≡◌, ◌+◌, [], ◌∷◌, ◌++◌, length, ap, ◌∙◌, length-append}
+use Rattle.std.proofs.Common.{[], ◌∷◌, length, ap, ◌∙◌, length-append}
 use Rattle.bl_relax.proofs.Steps.{goes_on, columns_distinct}
 use Rattle.bl_relax.proofs.relaxation.take_pivot.Goals as goal
 
