@@ -14,6 +14,7 @@ ghost use Rattle.bl_relax.specs.Runs.{IsRunOfSteps, IsAtEnd, IsProofOf, IsClosed
 
 use crate::point::{are_whole, whole_at, whole_point};
 use crate::relaxed::Relaxed;
+use crate::repair::repair;
 use crate::rounding::{Direction, rounded_point};
 use bl_bound::{Problem, Proof};
 use bl_frac::Frac;
@@ -104,11 +105,17 @@ fn whole_near(
         Direction::Nearest,
         Direction::TowardStart,
         Direction::FromStart,
+        Direction::AsRowsLike,
     ] {
         let point = rounded_point(alloc, problem, distances, direction)?;
         if whole_at(problem, cutoff, &point) {
             return Ok(Some(point));
         }
+    }
+    let mut point = rounded_point(alloc, problem, distances, Direction::Nearest)?;
+    repair(alloc, problem, &mut point)?;
+    if whole_at(problem, cutoff, &point) {
+        return Ok(Some(point));
     }
     Ok(None)
 }

@@ -10,6 +10,7 @@ mod finish;
 mod point;
 mod relaxation;
 mod relaxed;
+mod repair;
 mod rounding;
 #[cfg(test)]
 mod tests;
