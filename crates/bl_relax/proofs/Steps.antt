@@ -1,16 +1,19 @@
 -- A run of steps, and one more.
-use Rattle.std.proofs.Common.{◌≡◌, ℕ, ◌+◌, ◌<◌, ◌≤◌, inl, inr, List, [], ◌∷◌, ◌++◌, length, false, refl, sym, ap, ◌∙◌}
+use Rattle.std.proofs.Common.{◌≡◌, ℕ, inl, inr, List, [], ◌∷◌, ◌++◌, length, false, sym, ap, ◌∙◌}
 use Rattle.std.proofs.Common.{subst}
 use Rattle.std.specs.Prelude.{Option, ℤ}
 use Rattle.bl_terms.specs.Bounds.{Problem}
-use Rattle.bl_simplex.specs.Dictionaries.{Dictionary, opening}
+use Rattle.bl_simplex.specs.Dictionaries.{Dictionary, columns, opening}
 use Rattle.bl_simplex.specs.Pivots.{pivoted, replay, IsNarrowPivot, FailsFirstAt}
 use Rattle.bl_simplex.specs.Closing.{Closes}
 use Rattle.bl_simplex.specs.Licences.{IsStep, AreSteps, PassesWidth, PassesPivots, PassesNumbers, ClosesPastLimit}
 use Rattle.bl_simplex.specs.Licences.{IsPointPastLimit, pivot_limit}
 use Rattle.bl_tableau.specs.Runs.{Run, current}
 use Rattle.bl_licence.specs.Steps.{MayPivot}
+use Rattle.bl_duality.proofs.Labels.{permuted}
+use Rattle.bl_duality.proofs.CostSigns.{steps_narrow}
 use Rattle.bl_relax.specs.Runs.{IsRunOfSteps}
+use Rattle.bl_relax.specs.Choices.{AreDistinct}
 
 steps_one_more : (q : Problem) (u : Option ℤ) (d : Dictionary) (ps : List (ℕ × ℕ)) (p : ℕ × ℕ) → AreSteps q u d ps
     → IsStep q u (replay d ps) p → AreSteps q u d (ps ++ p ∷ [])
@@ -77,3 +80,12 @@ pub passes_by_point : (q : Problem) (u : Option ℤ) (run : Run) (ps : List (ℕ
 passes_by_point q u run ps so past e =
     let Past : Problem → Type 0 = λ r. IsPointPastLimit r u (replay (opening r) run.pivots) in
     subst (PassesNumbers q u) (sym e) (record { steps = so.steps; ending = inr (subst Past so.problem past) })
+
+-- ---- the labels of a run's columns
+
+pub columns_distinct : (q : Problem) (u : Option ℤ) (run : Run) → IsRunOfSteps q u run
+    → AreDistinct (columns run.problem) (current run).column_label
+columns_distinct q u run so =
+    let Distinct : Problem → Type 0 = λ r. AreDistinct (columns r) (replay (opening r) run.pivots).column_label in
+    let narrow = steps_narrow q u (opening q) run.pivots so.steps in
+    subst Distinct (sym so.problem) (record { each = (permuted q run.pivots narrow).columns_apart })

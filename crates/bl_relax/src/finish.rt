@@ -1,89 +1,92 @@
 //! What a last dictionary gives: a proof, a point, or a licence.
-ghost use Rattle.std.specs.Prelude.{◌≡◌, ◌+◌, ◌≤◌, ℕ, false, length, IfOk, IfSome, IsTrue};
-ghost use Rattle.bl_terms.specs.Bounds.{Fits, Proves};
+ghost use Rattle.std.specs.Prelude.{◌≡◌, ◌+◌, ◌≤◌, ℕ, false, pos, length, IfOk, IfSome, MatchOption};
+ghost use Rattle.bl_limits.specs.declared.TheConstants.{MAX_PROOF_NUMBER};
+ghost use Rattle.bl_terms.specs.Bounds.{Fits};
 ghost use Rattle.bl_bound.specs.Plain.{IsBetterPoint};
 ghost use Rattle.bl_simplex.specs.Dictionaries.{columns};
-ghost use Rattle.bl_simplex.specs.Licences.{ClosesPastLimit, IsPointPastLimit, PassesNumbers};
+ghost use Rattle.bl_simplex.specs.Closing.{Closes, ClosesByRow, row_multiplier, cost_multiplier, PassLimit};
+ghost use Rattle.bl_simplex.specs.Licences.{IsFeasible, PassesNumbers};
+ghost use Rattle.bl_simplex.specs.Rationals.{common_denominator as common_of};
 ghost use Rattle.bl_tableau.specs.Runs.{current};
+ghost use Rattle.bl_vertex.specs.Optima.{IsOpenOptimum};
 ghost use Rattle.bl_relax.specs.Relaxed.{IsRelaxed};
-ghost use Rattle.bl_relax.specs.Runs.{IsRunOfSteps, EndsPastLimit};
+ghost use Rattle.bl_relax.specs.Runs.{IsRunOfSteps, IsAtEnd, IsProofOf, IsClosed};
 
-use crate::point::whole_at;
+use crate::point::{are_whole, whole_at, whole_point};
 use crate::relaxed::Relaxed;
+use crate::repair::repair;
 use crate::rounding::{Direction, rounded_point};
-use bl_bound::{Problem, Proof, holds};
+use bl_bound::{Problem, Proof};
 use bl_frac::Frac;
 use bl_licence::{
-    Why, basic_values, closes_past_limit, cost_closes, cost_multipliers, first_closing_row,
-    is_fractional, is_point_past_limit, row_multipliers, whole_multiples,
+    Why, basic_values, common_denominator, cost_closes, cost_multipliers, first_closing_row,
+    row_multipliers, whole_multiples,
 };
 use bl_raw::Listed;
 use bl_tableau::Tableau;
 use std::alloc::{AllocError, Global};
 
-/// The proof of these multipliers, where it holds.
-pub fn closed_by(
-    problem: &Problem<'_>,
-    cutoff: Option<i64>,
-    den: i64,
-    mult: Vec<i64>,
-) -> Option<Proof>
-    requires { Fits problem.now }
-    ensures { IfSome result (λ w. Proves problem.now cutoff w) }
+/// A copy of the pivots that led to the dictionary.
+pub(crate) fn pivots_of(
+    alloc: Global,
+    tableau: &Tableau<'_, '_>,
+) -> Result<Listed<(u32, u32)>, AllocError>
+    ensures { IfOk result (λ ps. ps ≡ tableau.now.pivots) }
 {
-    let proof = Proof {
-        den,
-        mult: Listed::new(mult),
-    };
-    if holds(problem, cutoff, &proof) {
-        Some(proof)
-    } else {
-        None
-    }
+    Ok(Listed::new(Vec::from_slice(alloc, tableau.pivots())?))
 }
 
-/// The proof that a closing row gives.
-fn closed_by_row(
+/// The multipliers of a row, made whole, unless they pass the limit of proof numbers.
+fn row_proof(
     alloc: Global,
-    problem: &Problem<'_>,
-    cutoff: Option<i64>,
     tableau: &Tableau<'_, '_>,
+    row: u32,
 ) -> Result<Option<Proof>, AllocError>
-    requires problem_fits { Fits problem.now }
     requires not_spent { tableau.now.spent ≡ false }
-    ensures { IfOk result (λ o. IfSome o (λ w. Proves problem.now cutoff w)) }
+    requires closes { ClosesByRow tableau.now.problem (current tableau.now) row }
+    ensures { let f = row_multiplier tableau.now.problem (current tableau.now) row in
+        IfOk result (λ o. MatchOption o (PassLimit tableau.now.problem f) (IsProofOf tableau.now.problem (pos 0) f)) }
 {
-    let Some(row) = first_closing_row(tableau) else {
-        return Ok(None);
-    };
     let multipliers = row_multipliers(alloc, tableau, row)?;
     match whole_multiples(alloc, &multipliers)? {
-        Some((_, mult)) => Ok(closed_by(problem, cutoff, 0, mult)),
+        Some((_, mult)) => Ok(Some(Proof {
+            den: 0,
+            mult: Listed::new(mult),
+        })),
         None => Ok(None),
     }
 }
 
-/// The proof that the cost row gives.
-fn closed_by_cost(
-    alloc: Global,
-    problem: &Problem<'_>,
-    cutoff: Option<i64>,
-    tableau: &Tableau<'_, '_>,
-) -> Result<Option<Proof>, AllocError>
-    requires problem_fits { Fits problem.now }
-    requires not_spent { tableau.now.spent ≡ false }
-    ensures { IfOk result (λ o. IfSome o (λ w. Proves problem.now cutoff w)) }
+/// The multipliers of the cost row, made whole, unless they pass the limit of proof numbers.
+fn cost_proof(alloc: Global, tableau: &Tableau<'_, '_>) -> Result<Option<Proof>, AllocError>
+    requires { tableau.now.spent ≡ false }
+    ensures { let q = tableau.now.problem in let f = cost_multiplier q (current tableau.now) in
+        IfOk result (λ o. MatchOption o (PassLimit q f) (IsProofOf q (pos (common_of (length q.rows) f)) f)) }
 {
-    if !cost_closes(tableau, cutoff) {
-        return Ok(None);
-    }
     let multipliers = cost_multipliers(alloc, tableau)?;
     match whole_multiples(alloc, &multipliers)? {
-        Some((common, mult)) => {
-            let den = i64::try_from(common).unwrap_or(0);
-            Ok(closed_by(problem, cutoff, den, mult))
-        }
+        Some((common, mult)) => Ok(Some(Proof {
+            den: common as i64,
+            mult: Listed::new(mult),
+        })),
         None => Ok(None),
+    }
+}
+
+/// The answer of a dictionary that closes the box: its proof, or the licence of numbers that pass their limit.
+fn closed(
+    alloc: Global,
+    tableau: &Tableau<'_, '_>,
+    proof: Option<Proof>,
+) -> Result<Relaxed, AllocError>
+    ensures { IfOk result (IsClosed tableau.now.pivots proof) }
+{
+    match proof {
+        Some(proof) => Ok(Relaxed::Closed(proof)),
+        None => {
+            let pivots = pivots_of(alloc, tableau)?;
+            Ok(Relaxed::Stuck(Why::Large { pivots }))
+        }
     }
 }
 
@@ -102,85 +105,106 @@ fn whole_near(
         Direction::Nearest,
         Direction::TowardStart,
         Direction::FromStart,
+        Direction::AsRowsLike,
     ] {
         let point = rounded_point(alloc, problem, distances, direction)?;
         if whole_at(problem, cutoff, &point) {
             return Ok(Some(point));
         }
     }
+    let mut point = rounded_point(alloc, problem, distances, Direction::Nearest)?;
+    repair(alloc, problem, &mut point)?;
+    if whole_at(problem, cutoff, &point) {
+        return Ok(Some(point));
+    }
     Ok(None)
 }
 
-/// A copy of the pivots that led to the dictionary.
-pub(crate) fn pivots_of(
-    alloc: Global,
-    tableau: &Tableau<'_, '_>,
-) -> Result<Listed<(u32, u32)>, AllocError>
-    ensures { IfOk result (λ ps. ps ≡ tableau.now.pivots) }
-{
-    Ok(Listed::new(Vec::from_slice(alloc, tableau.pivots())?))
-}
-
-/// The licence of numbers past their limit, where the dictionary's proof or point needs such.
-fn large(alloc: Global, cutoff: Option<i64>, tableau: &Tableau<'_, '_>) -> Result<bool, AllocError>
-    requires { tableau.now.spent ≡ false }
-    ensures { IfOk result (λ b. IsTrue b → EndsPastLimit tableau.now.problem cutoff (current tableau.now)) }
-{
-    let closing = closes_past_limit(alloc, tableau, cutoff)?;
-    if closing {
-        return Ok(true);
-    }
-    let point = is_point_past_limit(alloc, tableau, cutoff)?;
-    Ok(point)
-}
-
-/// What the basic point of a dictionary gives: a whole point near it, or the licence of its fractions.
+/// The answer of an open optimum within the limit of proof numbers: the point itself where it is whole, a whole point
+/// near it, or the licence of its fractions.
 fn point_answer(
     alloc: Global,
     problem: &Problem<'_>,
     cutoff: Option<i64>,
     distances: Vec<Frac>,
-) -> Result<Option<Relaxed>, AllocError>
+) -> Result<Relaxed, AllocError>
     requires problem_fits { Fits problem.now }
-    requires size { length distances.items ≡ length problem.now.area.lo }
-    ensures { IfOk result (λ o. IfSome o (IsRelaxed problem.now cutoff)) }
+    requires optimum { (pivots : _) × IsOpenOptimum problem.now cutoff pivots distances.items }
+    ensures { IfOk result (IsRelaxed problem.now cutoff) }
 {
+    if are_whole(&distances) {
+        let point = whole_point(alloc, problem, &distances)?;
+        return Ok(Relaxed::Whole(Listed::new(point)));
+    }
     let near = whole_near(alloc, problem, cutoff, &distances)?;
-    if let Some(point) = near {
-        return Ok(Some(Relaxed::Whole(Listed::new(point))));
+    match near {
+        Some(point) => Ok(Relaxed::Whole(Listed::new(point))),
+        None => Ok(Relaxed::Stuck(Why::Fraction(Listed::new(distances)))),
     }
-    let licensed = is_fractional(alloc, problem, cutoff, &distances)?;
-    if !licensed {
-        return Ok(None);
-    }
-    Ok(Some(Relaxed::Stuck(Why::Fraction(Listed::new(distances)))))
 }
 
-/// What a dictionary gives at which no pivot is taken: the licence of its numbers, a proof, a point, or the licence
-/// of its fractions.
+/// The answer of an optimum whose numbers pass their limit: a whole point near it, or the licence of those numbers.
+fn large_answer(
+    alloc: Global,
+    problem: &Problem<'_>,
+    cutoff: Option<i64>,
+    tableau: &Tableau<'_, '_>,
+    distances: &[Frac],
+) -> Result<Relaxed, AllocError>
+    requires problem_fits { Fits problem.now }
+    requires size { length distances.now ≡ length problem.now.area.lo }
+    requires numbers { PassesNumbers problem.now cutoff tableau.now.pivots }
+    ensures { IfOk result (IsRelaxed problem.now cutoff) }
+{
+    let near = whole_near(alloc, problem, cutoff, distances)?;
+    match near {
+        Some(point) => Ok(Relaxed::Whole(Listed::new(point))),
+        None => {
+            let pivots = pivots_of(alloc, tableau)?;
+            Ok(Relaxed::Stuck(Why::Large { pivots }))
+        }
+    }
+}
+
+/// The answer of an open optimum.
+fn optimum_answer(
+    alloc: Global,
+    problem: &Problem<'_>,
+    cutoff: Option<i64>,
+    tableau: &Tableau<'_, '_>,
+) -> Result<Relaxed, AllocError>
+    requires problem_fits { Fits problem.now }
+    requires run { IsRunOfSteps problem.now cutoff tableau.now }
+    requires open_box { ¬ Closes problem.now cutoff (current tableau.now) }
+    requires feasible { IsFeasible problem.now (current tableau.now) }
+    ensures { IfOk result (IsRelaxed problem.now cutoff) }
+{
+    let distances = basic_values(alloc, tableau)?;
+    match common_denominator(&distances) {
+        Some(_) => point_answer(alloc, problem, cutoff, distances),
+        None => large_answer(alloc, problem, cutoff, tableau, &distances),
+    }
+}
+
+/// The answer of a dictionary at which the pivots end.
 pub(crate) fn finish(
     alloc: Global,
     problem: &Problem<'_>,
     cutoff: Option<i64>,
     tableau: &Tableau<'_, '_>,
-) -> Result<Option<Relaxed>, AllocError>
+) -> Result<Relaxed, AllocError>
     requires problem_fits { Fits problem.now }
     requires run { IsRunOfSteps problem.now cutoff tableau.now }
-    ensures { IfOk result (λ o. IfSome o (IsRelaxed problem.now cutoff)) }
+    requires at_end { IsAtEnd problem.now cutoff (current tableau.now) }
+    ensures { IfOk result (IsRelaxed problem.now cutoff) }
 {
-    let past = large(alloc, cutoff, tableau)?;
-    if past {
-        let pivots = pivots_of(alloc, tableau)?;
-        return Ok(Some(Relaxed::Stuck(Why::Large { pivots })));
+    if let Some(row) = first_closing_row(tableau) {
+        let proof = row_proof(alloc, tableau, row)?;
+        return closed(alloc, tableau, proof);
     }
-    let by_row = closed_by_row(alloc, problem, cutoff, tableau)?;
-    if let Some(proof) = by_row {
-        return Ok(Some(Relaxed::Closed(proof)));
+    if cost_closes(tableau, cutoff) {
+        let proof = cost_proof(alloc, tableau)?;
+        return closed(alloc, tableau, proof);
     }
-    let by_cost = closed_by_cost(alloc, problem, cutoff, tableau)?;
-    if let Some(proof) = by_cost {
-        return Ok(Some(Relaxed::Closed(proof)));
-    }
-    let distances = basic_values(alloc, tableau)?;
-    point_answer(alloc, problem, cutoff, distances)
+    optimum_answer(alloc, problem, cutoff, tableau)
 }

@@ -1,5 +1,5 @@
 //! The relaxation: pivots as long as there are any, and what the last dictionary gives.
-ghost use Rattle.std.specs.Prelude.{◌≡◌, ◌<◌, ◌≤◌, ◌+◌, length, IfOk, IfSome};
+ghost use Rattle.std.specs.Prelude.{◌≡◌, ◌<◌, ◌≤◌, ◌+◌, length, IfOk};
 ghost use Rattle.bl_terms.specs.Bounds.{Fits};
 ghost use Rattle.bl_simplex.specs.Licences.{pivot_limit as pivot_limit_of};
 ghost use Rattle.bl_relax.specs.Relaxed.{IsRelaxed};
@@ -10,7 +10,7 @@ use crate::choice::next_pivot;
 use crate::finish::{finish, pivots_of};
 use crate::relaxed::Relaxed;
 use bl_bound::Problem;
-use bl_licence::{Why, closes, may_pivot, pivot_limit};
+use bl_licence::{Why, closes, is_feasible, pivot_limit};
 use bl_tableau::Tableau;
 use std::alloc::{AllocError, Global};
 
@@ -31,12 +31,9 @@ fn take_pivot(problem: &Problem<'_>, cutoff: Option<i64>, tableau: &mut Tableau<
     requires room { length tableau.old.pivots < tableau.old.most }
     ensures { AdvancesTo problem.now cutoff tableau.old tableau.new result }
 {
-    let Some(pivot) = next_pivot(tableau) else {
+    let Some(pivot) = next_pivot(tableau, cutoff) else {
         return Advance::Last;
     };
-    if !may_pivot(tableau, cutoff, pivot) {
-        return Advance::Last;
-    }
     match tableau.pivot(pivot.0, pivot.1) {
         Ok(()) => Advance::Taken,
         Err(wide) => Advance::Wide {
@@ -52,33 +49,28 @@ fn last_answer(
     problem: &Problem<'_>,
     cutoff: Option<i64>,
     tableau: &Tableau<'_, '_>,
-) -> Result<Option<Relaxed>, AllocError>
+) -> Result<Relaxed, AllocError>
     requires problem_fits { Fits problem.now }
     requires run { IsRunOfSteps problem.now cutoff tableau.now }
     requires count { length tableau.now.pivots ≡ pivot_limit_of problem.now }
-    ensures { IfOk result (λ o. IfSome o (IsRelaxed problem.now cutoff)) }
+    ensures { IfOk result (IsRelaxed problem.now cutoff) }
 {
-    let answer = finish(alloc, problem, cutoff, tableau)?;
-    if answer.is_some() || closes(tableau, cutoff) {
-        return Ok(answer);
+    if closes(tableau, cutoff) || is_feasible(tableau) {
+        return finish(alloc, problem, cutoff, tableau);
     }
     let pivots = pivots_of(alloc, tableau)?;
-    Ok(Some(Relaxed::Stuck(Why::Tired { pivots })))
+    Ok(Relaxed::Stuck(Why::Tired { pivots }))
 }
 
 /// Relaxes the problem: a proof that closes the box, a whole point of it below the cutoff, or a licence to split it,
-/// after at most as many pivots as a relaxation may take. Each answer is shown by an exact test or by the pivots
-/// that were taken.
-///
-/// `None` is for a last dictionary whose numbers no test accepts. Exact arithmetic leads to none; that this is so
-/// isn't proved.
-pub fn attempt(
+/// after at most as many pivots as a relaxation may take.
+pub fn relax(
     alloc: Global,
     problem: &Problem<'_>,
     cutoff: Option<i64>,
-) -> Result<Option<Relaxed>, AllocError>
+) -> Result<Relaxed, AllocError>
     requires { Fits problem.now }
-    ensures { IfOk result (λ o. IfSome o (IsRelaxed problem.now cutoff)) }
+    ensures { IfOk result (IsRelaxed problem.now cutoff) }
 {
     let most = pivot_limit(problem);
     let mut tableau = Tableau::start(alloc, problem, most)?;
@@ -87,11 +79,11 @@ pub fn attempt(
             Advance::Taken => {}
             Advance::Wide { row, column } => {
                 let pivots = pivots_of(alloc, &tableau)?;
-                return Ok(Some(Relaxed::Stuck(Why::Wide {
+                return Ok(Relaxed::Stuck(Why::Wide {
                     pivots,
                     row,
                     column,
-                })));
+                }));
             }
             Advance::Last => return finish(alloc, problem, cutoff, &tableau),
         }

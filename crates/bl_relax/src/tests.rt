@@ -13,9 +13,9 @@ fn answer(
     alloc: Global,
     problem: &Problem<'_>,
     cutoff: Option<i64>,
-) -> Result<Option<Relaxed>, AllocError> {
+) -> Result<Relaxed, AllocError> {
     assert!(rt; problem.fits());
-    attempt(alloc, problem, cutoff)
+    relax(alloc, problem, cutoff)
 }
 
 // Minimise -X - 10Y for X and Y from 0 to 10 (Moore and Bard 1990).
@@ -44,11 +44,31 @@ fn a_vertex_and_its_proof(rt: HostRuntime) -> Result<(), Fail> {
     let problem = moore_bard(rt.alloc(), &cost, &lo, &hi, &coefs)?;
     let whole = answer(&rt, rt.alloc(), &problem, None)?;
     match &whole {
-        Some(Relaxed::Whole(point)) => assert_eq!(rt; point.as_slice(), [2, 4].as_slice()),
+        Relaxed::Whole(point) => assert_eq!(rt; point.as_slice(), [2, 4].as_slice()),
         _ => assert!(rt; false),
     }
     let closed = answer(&rt, rt.alloc(), &problem, Some(-42))?;
-    assert!(rt; matches!(closed, Some(Relaxed::Closed(_))));
+    assert!(rt; matches!(closed, Relaxed::Closed(_)));
+    Ok(())
+}
+
+// Minimise x + y for x and y from 0 to 1: the rows ask for x + y >= 3, or x >= 1/p and y >= 1/r where no whole number
+// up to 2^50 is a multiple of both.
+#[test]
+fn no_point_and_large_numbers(rt: HostRuntime) -> Result<(), Fail> {
+    let (cost, lo, hi) = ([1, 1], [0, 0], [1, 1]);
+    let (sum, first, second) = ([-1, -1], [-33_554_393, 0], [0, -67_108_859]);
+    let mut empty = Problem::start(rt.alloc(), &cost, &lo, &hi);
+    empty.row(&sum, -3)?;
+    match &answer(&rt, rt.alloc(), &empty, None)? {
+        Relaxed::Closed(proof) => assert_eq!(rt; proof.den, 0),
+        _ => assert!(rt; false),
+    }
+    let mut large = Problem::start(rt.alloc(), &cost, &lo, &hi);
+    large.row(&first, -1)?;
+    large.row(&second, -1)?;
+    let stuck = answer(&rt, rt.alloc(), &large, Some(2))?;
+    assert!(rt; matches!(stuck, Relaxed::Stuck(Why::Large { .. })));
     Ok(())
 }
 
@@ -64,16 +84,14 @@ fn add_rows<'a>(problem: &mut Problem<'a>, coefs: &'a [[i64; 7]; 3]) -> Result<(
 }
 
 // How many pivots were taken, and the place at which the last one passed 128 bits.
-fn wide_place(answer: &Option<Relaxed>) -> Option<(usize, u32, u32)> {
+fn wide_place(answer: &Relaxed) -> Option<(usize, u32, u32)> {
     match answer {
-        Some(
-            Relaxed::Stuck(
-                Why::Wide {
-                    pivots,
-                    row,
-                    column,
-                },
-            ),
+        Relaxed::Stuck(
+            Why::Wide {
+                pivots,
+                row,
+                column,
+            },
         ) => Some((pivots.as_slice().len(), *row, *column)),
         _ => None,
     }
@@ -107,9 +125,9 @@ fn a_fractional_optimum(rt: HostRuntime) -> Result<(), Fail> {
     let mut problem = Problem::start(rt.alloc(), &cost, &lo, &hi);
     problem.row(&coef, 3)?;
     let rounded = answer(&rt, rt.alloc(), &problem, None)?;
-    assert!(rt; matches!(rounded, Some(Relaxed::Whole(_))));
+    assert!(rt; matches!(rounded, Relaxed::Whole(_)));
     let closed = answer(&rt, rt.alloc(), &problem, Some(-1))?;
-    assert!(rt; matches!(closed, Some(Relaxed::Closed(_))));
+    assert!(rt; matches!(closed, Relaxed::Closed(_)));
     // Minimise -x - y where 2x + 2y <= 3 and 2x - 2y = 1: x = 1, y = 1/2.
     let (cost, lo, hi) = ([-1, -1], [0, 0], [3, 3]);
     let coefs = [[2, 2], [2, -2], [-2, 2]];
@@ -118,6 +136,6 @@ fn a_fractional_optimum(rt: HostRuntime) -> Result<(), Fail> {
     slanted.row(&coefs[1], 1)?;
     slanted.row(&coefs[2], -1)?;
     let stuck = answer(&rt, rt.alloc(), &slanted, None)?;
-    assert!(rt; matches!(stuck, Some(Relaxed::Stuck(Why::Fraction(_)))));
+    assert!(rt; matches!(stuck, Relaxed::Stuck(Why::Fraction(_))));
     Ok(())
 }

@@ -1,13 +1,16 @@
-use Rattle.std.proofs.Common.{rules, inl, inr}
-use Rattle.bl_relax.proofs.Steps.{passes_by_proof, passes_by_point}
+use Rattle.std.proofs.Common.{rules}
+use Rattle.bl_relax.proofs.LastAnswers.{row_answer, cost_answer, if_ok}
 use Rattle.bl_relax.proofs.finish.finish.Goals as goal
 
-pub returns-then-past : goal.returns-then-past
-returns-then-past c =
-    let q = c.args.problem.now in
-    let u = c.args.cutoff in
-    let run = c.args.tableau.now in
-    elim (c.in_ok-past.ensures (search rules)) [
-      | inl closing ↦ passes_by_proof q u run c.in_ok-pivots.pivots c.requires.run closing c.in_ok-pivots.ensures
-      | inr point ↦ passes_by_point q u run c.in_ok-pivots.pivots c.requires.run point c.in_ok-pivots.ensures
-    ]
+pub returns-in-Some : goal.returns-in-Some
+returns-in-Some c =
+    if_ok _ _ c.closed.result
+    (λ answer e. row_answer c.args.problem.now c.args.cutoff c.args.tableau.now c.in-Some.row c.in_ok-proof.proof answer
+    c.requires.problem_fits c.requires.run c.in-Some.ensures c.in_ok-proof.ensures e) c.closed.ensures
+
+pub returns-then-cost_closes : goal.returns-then-cost_closes
+returns-then-cost_closes c =
+    if_ok _ _ c.closed-then-cost_closes.result
+    (λ answer e. cost_answer c.args.problem.now c.args.cutoff c.args.tableau.now c.in_ok-proof-2.proof answer
+    c.requires.problem_fits c.requires.run c.in_default.ensures (c.cost_closes.ensures.0 (search rules))
+    c.in_ok-proof-2.ensures e) c.closed-then-cost_closes.ensures

@@ -1,5 +1,4 @@
-use Rattle.std.proofs.Common.{◌*◌, ◌≤◌, length, ap, sym, subst, arith, List}
-use Rattle.std.specs.Prelude.{ℤ}
+use Rattle.std.proofs.Common.{sym, subst, arith}
 use Rattle.std.specs.Int.{w128}
 use Rattle.bl_whole.specs.Within.{PartialDotsFit}
 use Rattle.bl_relax.proofs.Inside.{inside_dots_fit}

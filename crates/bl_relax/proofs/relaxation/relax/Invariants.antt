@@ -1,7 +1,7 @@
 use Rattle.std.proofs.Common.{◌≡◌, length}
 use Rattle.bl_simplex.specs.Licences.{pivot_limit}
 use Rattle.bl_relax.specs.Runs.{IsRunOfSteps}
-use Rattle.bl_relax.proofs.relaxation.attempt.Given as goal
+use Rattle.bl_relax.proofs.relaxation.relax.Given as goal
 
 abbrev pub invariant-loop-taken : goal.invariant-loop-taken
 invariant-loop-taken l = record {

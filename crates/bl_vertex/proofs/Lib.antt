@@ -1,0 +1,3 @@
+pub mod BasicValues
+pub mod OpeningRows
+pub mod OpenOptimum

@@ -1,0 +1,2 @@
+-- Internal: what the relaxation rests on.
+pub mod Optima

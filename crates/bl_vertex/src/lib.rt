@@ -1,0 +1,4 @@
+//! The optimum of a dictionary that doesn't close its box.
+#![tactic(auto)]
+
+pub mod laws;
