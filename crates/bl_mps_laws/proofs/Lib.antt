@@ -1,0 +1,6 @@
+pub mod Tokens
+pub mod Walks
+pub mod Fresh
+pub mod Tables
+pub mod Sayable
+pub mod Forms

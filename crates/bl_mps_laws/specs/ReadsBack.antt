@@ -1,0 +1,25 @@
+-- Trusted. A canonical MPS text reads back.
+use Rattle.std.specs.Prelude.{◌≡◌, ◌⊎◌, ℕ, ◌<◌, ◌≤◌, ℤ, unsigned_abs, List, length, Some, Result, Ok, Err}
+use Rattle.bl_limits.specs.declared.TheConstants.{MAX_NUMBER, MAX_TEXT_BYTES}
+use Rattle.bl_raw.specs.declared.raw.RawMps.{RawMps}
+use Rattle.bl_mps_terms.specs.declared.fault.MpsRule.TheVariants as rules
+use Rattle.bl_mps_terms.specs.Faults.{at_line, first_fault}
+use Rattle.bl_mps_terms.specs.Meaning.{Reads}
+use Rattle.bl_mps_read.specs.declared.error.MpsError.{MpsError}
+use Rattle.bl_mps_read.specs.declared.error.MpsError.TheVariants.{Memory}
+use Rattle.bl_mps_write.specs.Canonical.{mps_text}
+use Rattle.bl_mps.specs.Read.{IsRead}
+
+-- The canonical text of what some text says, with a small enough default upper bound, has at most as many bytes as a
+-- text may have; else it is refused for its length.
+pub record ReadsBack : Type 0 where
+  -- It says the same with every default upper bound,
+  pub said : (default : ℤ) (text : List ℕ) (mps : RawMps) → unsigned_abs default ≤ MAX_NUMBER → Reads default text mps
+      → length (mps_text mps) ≤ MAX_TEXT_BYTES → (other : ℤ) → Reads other (mps_text mps) mps
+  -- so it is read as the same model, unless memory runs out.
+  pub read : (default : ℤ) (text : List ℕ) (mps : RawMps) → unsigned_abs default ≤ MAX_NUMBER
+      → IsRead default text (Ok mps) → length (mps_text mps) ≤ MAX_TEXT_BYTES → (other : ℤ)
+      → (result : Result RawMps MpsError) → IsRead other (mps_text mps) result
+      → (result ≡ Ok mps) ⊎ (result ≡ Err Memory)
+  pub long : (mps : RawMps) → MAX_TEXT_BYTES < length (mps_text mps) → (other : ℤ)
+      → first_fault other (mps_text mps) ≡ Some (at_line 0 rules.TooLong)
