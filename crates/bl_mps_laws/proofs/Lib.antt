@@ -4,3 +4,6 @@ pub mod Fresh
 pub mod Tables
 pub mod Sayable
 pub mod Forms
+pub mod RowLines
+pub mod Decimals
+pub mod PairLines

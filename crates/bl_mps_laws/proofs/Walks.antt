@@ -132,3 +132,35 @@ walked before (t ∷ ts) others more h =
       fault = first_line before (line_of t) (map line_of ts ++ more) (line_fault-same before t h.0 ∙ h.2)
           (not_end t h.0 h.1) ∙ rest.fault ∙ ap (λ (ls : List Bytes). lines_fault ls more) all;
     }
+
+-- ---- the data lines of one section
+
+-- The lines are data lines, and none breaks a rule behind those before it.
+abbrev pub EachFine : (List (List Bytes) → List Bytes → Option MpsRule) → List (List Bytes) → List (List Bytes) → Type 0
+EachFine fault before [] = Unit {0}
+EachFine fault before (line ∷ lines) =
+    IsToken (Fields line) × (fault before line ≡ None) × EachFine fault (before ++ line ∷ []) lines
+
+pub fine_on : (fault : List (List Bytes) → List Bytes → Option MpsRule) (before xs ys : List (List Bytes))
+    → EachFine fault before xs → EachFine fault (before ++ xs) ys → EachFine fault before (xs ++ ys)
+fine_on fault before [] ys h k = subst (λ (b : List (List Bytes)). EachFine fault b ys) (append-nil before) k
+fine_on fault before (x ∷ xs) ys h k =
+    (h.0, h.1, fine_on fault (before ++ x ∷ []) xs ys h.2
+    (subst (λ (b : List (List Bytes)). EachFine fault b ys) (sym (append_assoc before (x ∷ []) xs)) k))
+
+-- The parts by what stands under one section, which each data line grows.
+module _ (at : List (List Bytes) → LineParts) (fault : List (List Bytes) → List Bytes → Option MpsRule)
+    (faults : (lines : List (List Bytes)) (line : List Bytes) → token_fault (at lines) (Fields line) ≡ fault lines line)
+    (grows : (lines : List (List Bytes)) (line : List Bytes) → behind (at lines) (Fields line) ≡ at (lines ++ line ∷ []))
+    where
+  pub data_lead : (before lines : List (List Bytes)) → EachFine fault before lines
+      → Leads (at before) (map Fields lines) (at (before ++ lines))
+  data_lead before [] h = ap at (sym (append-nil before))
+  data_lead before (line ∷ lines) h = (
+    h.0,
+    tt,
+    faults before line ∙ h.1,
+    subst (λ (p : LineParts). Leads p (map Fields lines) (at (before ++ line ∷ lines))) (sym (grows before line))
+        (subst (λ (ls : List (List Bytes)). Leads (at (before ++ line ∷ [])) (map Fields lines) (at ls))
+        (append_assoc before (line ∷ []) lines) (data_lead (before ++ line ∷ []) lines h.2)),
+  )
