@@ -7,3 +7,5 @@ pub mod Forms
 pub mod RowLines
 pub mod Decimals
 pub mod PairLines
+pub mod ColumnLines
+pub mod ColumnTables
