@@ -9,3 +9,4 @@ pub mod Decimals
 pub mod PairLines
 pub mod ColumnLines
 pub mod ColumnTables
+pub mod BoundLines
