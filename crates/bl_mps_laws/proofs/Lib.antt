@@ -10,3 +10,4 @@ pub mod PairLines
 pub mod ColumnLines
 pub mod ColumnTables
 pub mod BoundLines
+pub mod CanonicalText

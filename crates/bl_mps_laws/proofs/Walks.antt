@@ -59,7 +59,7 @@ abbrev pub token_fault : LineParts → Token → Option MpsRule
 token_fault parts (Begin section) = section_fault parts.sections (Some section) (word_of section ∷ [])
 token_fault parts (Fields fs) = field_fault parts.present parts fs
 
-behind-same : (before : List Bytes) (token : Token) → IsToken token
+pub behind-same : (before : List Bytes) (token : Token) → IsToken token
     → parts_of (before ++ line_of token ∷ []) ≡ behind (parts_of before) token
 behind-same before (Begin section) h =
     parts-push before (word_of section)
@@ -72,7 +72,7 @@ behind-same before (Fields fs) h =
     (data_begins fs h)
     ∙ ap (data_added (parts_of before).present (parts_of before)) (data_fields fs h)
 
-line_fault-same : (before : List Bytes) (token : Token) → IsToken token
+pub line_fault-same : (before : List Bytes) (token : Token) → IsToken token
     → line_fault before (line_of token) ≡ token_fault (parts_of before) token
 unfolding line_fault
 line_fault-same before (Begin section) h =
