@@ -11,3 +11,5 @@ pub mod ColumnLines
 pub mod ColumnTables
 pub mod BoundLines
 pub mod CanonicalText
+pub mod Usable
+pub mod CanonicalLines
