@@ -92,7 +92,7 @@ module _ (columns : List (List Bytes)) where
 abbrev bound_of : BoundKind → Bytes → ℤ → BoundLine
 bound_of kind name z = record { kind = kind; column = name; number = Some (signed_decimal z) }
 
-abbrev both_of : RawColumn → List BoundLine
+abbrev pub both_of : RawColumn → List BoundLine
 both_of column = bound_of Lo column.name column.lo ∷ bound_of Up column.name column.hi ∷ []
 
 on-none : (name : Bytes) (columns : List RawColumn) → is_named (column_names columns) name ≡ false

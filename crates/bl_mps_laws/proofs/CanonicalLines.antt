@@ -123,7 +123,7 @@ last mps = state (Some Bounds) (begun mps.maximise (Rows ∷ Columns ∷ RightSi
     (senses mps.maximise) (row_data mps.objective mps.rows) (column_data (column_texts mps))
     (right_side_data mps.rows) (range_data mps.rows) (bound_data mps.columns)
 
-names_same : (objective : Bytes) (columns : List RawColumn) (mps : RawMps)
+pub names_same : (objective : Bytes) (columns : List RawColumn) (mps : RawMps)
     → names_for (map (column_text objective mps.rows) columns) ≡ column_names columns
 names_same objective [] mps = refl
 names_same objective (column ∷ columns) mps =

@@ -13,3 +13,5 @@ pub mod BoundLines
 pub mod CanonicalText
 pub mod Usable
 pub mod CanonicalLines
+pub mod CanonicalRows
+pub mod Canonical

@@ -31,7 +31,7 @@ row_fields row = letter_of (form_of row).kind ∷ row.name ∷ []
 abbrev pub row_data : Bytes → List RawRow → List (List Bytes)
 row_data objective rows = (codes "N" ∷ objective ∷ []) ∷ map row_fields rows
 
-letter_kind : (kind : RowKind) → row_kind (letter_of kind) ≡ Some kind
+pub letter_kind : (kind : RowKind) → row_kind (letter_of kind) ≡ Some kind
 letter_kind Free = refl
 letter_kind AtMost = refl
 letter_kind AtLeast = refl
