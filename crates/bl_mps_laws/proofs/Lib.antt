@@ -15,3 +15,5 @@ pub mod Usable
 pub mod CanonicalLines
 pub mod CanonicalRows
 pub mod Canonical
+pub mod TextWords
+pub mod LineRules
