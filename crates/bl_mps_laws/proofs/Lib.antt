@@ -17,3 +17,6 @@ pub mod CanonicalRows
 pub mod Canonical
 pub mod TextWords
 pub mod LineRules
+pub mod SaidRows
+pub mod SaidColumns
+pub mod Said

@@ -62,9 +62,14 @@ all_append P (x ∷ xs) ys h k = (h.0, all_append P xs ys h.1 k)
 
 -- ---- rows
 
+-- a row's kind and name
+pub record IsRowLine (line : List Bytes) : Type 0 where
+  pub kind : is_some (row_kind (field 0 line)) ≡ true
+  pub name : IsRowName (field 1 line)
+
 -- Under ROWS each name stands once, and few enough rows are bounded.
 pub record RowsKeep (rows : List (List Bytes)) : Type 0 where
-  pub names : AllByRecursion (λ line. IsRowName (field 1 line)) rows
+  pub lines : AllByRecursion IsRowLine rows
   pub distinct : IsFresh (row_names rows)
   pub count : length (bounded_rows rows) ≤ MAX_TEXT_ROWS
 
@@ -96,9 +101,12 @@ rows_step rows line e words h =
     let room = none_first (unless (is_free_row line || ltb (length (bounded_rows rows)) MAX_TEXT_ROWS) rules.TooMany)
     [] there.1 in
     record {
-      names = all_append (λ l. IsRowName (field 1 l)) rows (line ∷ []) h.names (record {
-        word = second_word line (none_unless _ rules.BadFields fields.0) words;
-        apart = none_when _ rules.BadFields marker.0;
+      lines = all_append IsRowLine rows (line ∷ []) h.lines (record {
+        kind = none_unless _ rules.BadFields kind.0;
+        name = record {
+          word = second_word line (none_unless _ rules.BadFields fields.0) words;
+          apart = none_when _ rules.BadFields marker.0;
+        };
       }, tt);
       distinct = subst IsFresh (sym (map_push (field 1) rows line))
           (fresh_push (row_names rows) (field 1 line) h.distinct (none_when _ rules.DuplicateRow there.0));
@@ -346,7 +354,7 @@ lines_keep before (line ∷ lines) e l h =
 pub nothing_kept : Keeps (parts_of [])
 unfolding SetKeeps section_after sections_of senses_from data_from
 nothing_kept = record {
-  rows = record { names = tt; distinct = tt; count = omega arith };
+  rows = record { lines = tt; distinct = tt; count = omega arith };
   columns = record { words = tt; distinct = tt; count = omega arith; small = λ name. tt };
   right_sides = tt;
   ranges = tt;
