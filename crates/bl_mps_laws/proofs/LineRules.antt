@@ -134,23 +134,25 @@ pairs_numbered rows most objective given (pair ∷ pairs) e =
 
 -- ---- the lines of sets
 
-pub SetKeeps : List (List Bytes) → Type 0
-SetKeeps lines = AllByRecursion (IsNumbered MAX_TEXT_RHS) (flat_map pairs_of_set lines)
+-- Under RHS and under RANGES every number is small enough.
+pub record SetKeeps (lines : List (List Bytes)) : Type 0 where
+  pub small : AllByRecursion (IsNumbered MAX_TEXT_RHS) (flat_map pairs_of_set lines)
 
 set_step : (objective : Option Bytes) (rows before : List (List Bytes)) (line : List Bytes)
     → set_fault MAX_TEXT_RHS objective rows before line ≡ None → SetKeeps before → SetKeeps (before ++ line ∷ [])
-unfolding SetKeeps
 set_step objective rows before line e h =
     let fields = none_first
     (unless (is_even (length line) || (eqb (length line) 3 || eqb (length line) 5)) rules.BadFields) _ e in
     let pairs = none_first (pairs_fault (row_names rows) MAX_TEXT_RHS objective (names_in (flat_map pairs_of_set before))
     (pairs_of_set line)) [] fields.1 in
-    subst (AllByRecursion (IsNumbered MAX_TEXT_RHS))
-    (sym (flat_map-append pairs_of_set before (line ∷ [])
-    ∙ ap (λ (ps : List (Bytes × Bytes)). flat_map pairs_of_set before ++ ps) (append-nil (pairs_of_set line))))
-    (all_append (IsNumbered MAX_TEXT_RHS) (flat_map pairs_of_set before) (pairs_of_set line) h
-    (pairs_numbered (row_names rows) MAX_TEXT_RHS objective (names_in (flat_map pairs_of_set before))
-    (pairs_of_set line) pairs.0))
+    record {
+      small = subst (AllByRecursion (IsNumbered MAX_TEXT_RHS))
+          (sym (flat_map-append pairs_of_set before (line ∷ [])
+          ∙ ap (λ (ps : List (Bytes × Bytes)). flat_map pairs_of_set before ++ ps) (append-nil (pairs_of_set line))))
+          (all_append (IsNumbered MAX_TEXT_RHS) (flat_map pairs_of_set before) (pairs_of_set line) h.small
+          (pairs_numbered (row_names rows) MAX_TEXT_RHS objective (names_in (flat_map pairs_of_set before))
+          (pairs_of_set line) pairs.0));
+    }
 
 -- ---- columns
 
@@ -352,10 +354,10 @@ lines_keep before (line ∷ lines) e l h =
     (λ f k. lines_keep (before ++ line ∷ []) lines f l.1 k)
 
 pub nothing_kept : Keeps (parts_of [])
-unfolding SetKeeps section_after sections_of senses_from data_from
+unfolding section_after sections_of senses_from data_from
 nothing_kept = record {
   rows = record { lines = tt; distinct = tt; count = omega arith };
   columns = record { words = tt; distinct = tt; count = omega arith; small = λ name. tt };
-  right_sides = tt;
-  ranges = tt;
+  right_sides = record { small = tt };
+  ranges = record { small = tt };
 }
