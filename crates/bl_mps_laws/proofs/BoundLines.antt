@@ -1,16 +1,15 @@
 -- The lines under BOUNDS of a canonical text break no rule, and say both bounds of each column.
-use Rattle.std.proofs.Common.{◌≡◌, ℕ, ◌<◌, ◌≤◌, Bool, true, false, ◌&&◌, List, [], ◌∷◌, ◌++◌, map, filter, ℤ, pos}
-use Rattle.std.proofs.Common.{Option, Some, None, Result, Ok, Err, unsigned_abs, refl, sym, ap, ◌∙◌, arith, codes, rules}
+use Rattle.std.proofs.Common.{◌≡◌, ℕ, true, false, List, [], ◌∷◌, ℤ, pos}
+use Rattle.std.proofs.Common.{Option, Some, None, Result, Ok, unsigned_abs, refl, ap, ◌∙◌, arith, codes, rules}
 use Rattle.std.specs.Prelude.{◌≤ℤ◌, int_lt}
 use Rattle.std.specs.Fmt.{signed_decimal}
-use Rattle.std.specs.List.{flat_map, filter_map, AllByRecursion}
+use Rattle.std.specs.List.{flat_map, AllByRecursion}
 use Rattle.std.specs.Result.{result_unwrap_or}
 use Rattle.std.specs.Str.{bytes_eq}
 use Rattle.std.proofs.Math.Bool.{and-false}
 use Rattle.std.proofs.lemmas.Bool.{le-leb, lt-leb}
 use Rattle.std.proofs.lemmas.Int.{ints}
-use Rattle.bl_limits.specs.declared.TheConstants.{MAX_WHOLE, MAX_NUMBER, NO_BOUND}
-use Rattle.bl_num.specs.declared.fault.NumFault.{NumFault}
+use Rattle.bl_limits.specs.declared.TheConstants.{MAX_NUMBER, NO_BOUND}
 use Rattle.bl_num.proofs.Meanings.{reads_decimals}
 use Rattle.bl_raw.specs.Raw.{IsSmall}
 use Rattle.bl_raw.specs.declared.raw.RawColumn.{RawColumn}
@@ -19,11 +18,11 @@ use Rattle.bl_mps_terms.specs.declared.words.BoundKind.{BoundKind}
 use Rattle.bl_mps_terms.specs.declared.words.BoundKind.TheVariants.{Lo, Up}
 use Rattle.bl_mps_terms.specs.Words.{Bytes}
 use Rattle.bl_mps_terms.specs.Rules.{is_named}
-use Rattle.bl_mps_terms.specs.Lines.{BoundLine, bound_within, bound_line, bound_read, bound_fault, columns_of, bounds_on}
+use Rattle.bl_mps_terms.specs.Lines.{BoundLine, bound_within, bound_read, bound_fault, columns_of, bounds_on}
 use Rattle.bl_mps_terms.specs.Lines.{lower_of, upper_of, whole_fault, number_given}
 use Rattle.bl_mps.proofs.Names.{IsFresh, or_false, same_true}
 use Rattle.bl_mps_laws.proofs.Decimals.{number_word}
-use Rattle.bl_mps_laws.proofs.Fresh.{differ_sym, or_second}
+use Rattle.bl_mps_laws.proofs.Fresh.{differ_sym}
 use Rattle.bl_mps_laws.proofs.Sayable.{IsSayableColumn, column_names}
 use Rattle.bl_mps_laws.proofs.Tokens.{IsWord}
 use Rattle.bl_mps_laws.proofs.Walks.{EachFine}

@@ -1,27 +1,24 @@
 -- The canonical text of a model that a text can say, says it.
-use Rattle.std.proofs.Common.{◌≡◌, ℕ, ◌+◌, ◌<◌, ◌≤◌, Bool, true, false, cond, List, [], ◌∷◌, ◌++◌, map, length, Option}
-use Rattle.std.proofs.Common.{Some, None, ℤ, is_none, refl, sym, ap, subst, ◌∙◌, arith, codes, nat_lt}
+use Rattle.std.proofs.Common.{◌≡◌, ℕ, ◌+◌, ◌≤◌, Bool, true, false, cond, List, [], ◌∷◌, ◌++◌, map, length, Option}
+use Rattle.std.proofs.Common.{Some, None, ℤ, is_none, refl, sym, ap, subst, ◌∙◌, codes}
 use Rattle.std.specs.Option.{option_map}
 use Rattle.std.specs.List.{AllByRecursion, AllZip, flat_map, list_any}
 use Rattle.std.proofs.lemmas.Bool.{le-ltb}
-use Rattle.std.proofs.lemmas.List.{append-nil, map_push}
+use Rattle.std.proofs.lemmas.List.{map_push}
 use Rattle.bl_limits.specs.declared.TheConstants.{MAX_TEXT_BYTES}
-use Rattle.bl_raw.specs.declared.raw.RawRow.{RawRow}
 use Rattle.bl_raw.specs.declared.raw.RawColumn.{RawColumn}
 use Rattle.bl_raw.specs.declared.raw.RawMps.{RawMps}
 use Rattle.bl_text.specs.Lines.{lines_of}
-use Rattle.bl_mps_terms.specs.declared.fault.MpsRule.{MpsRule}
 use Rattle.bl_mps_terms.specs.declared.fault.MpsFault.{MpsFault}
 use Rattle.bl_mps_terms.specs.declared.fault.MpsRule.TheVariants as rules
-use Rattle.bl_mps_terms.specs.declared.words.Section.{Section}
 use Rattle.bl_mps_terms.specs.declared.words.Section.TheVariants.{Rows, Columns, RightSides, Ranges, Bounds, End}
 use Rattle.bl_mps_terms.specs.Words.{Bytes}
-use Rattle.bl_mps_terms.specs.Parts.{under, senses_of, is_end, lines_read}
+use Rattle.bl_mps_terms.specs.Parts.{lines_read}
 use Rattle.bl_mps_terms.specs.Rules.{is_named}
-use Rattle.bl_mps_terms.specs.Lines.{BoundLine, row_names, objective_of, bounded_rows, columns_of, pairs_on, pairs_of_set}
+use Rattle.bl_mps_terms.specs.Lines.{row_names, objective_of, bounded_rows, columns_of, pairs_on, pairs_of_set}
 use Rattle.bl_mps_terms.specs.Lines.{bounds_on, lower_of, upper_of, is_marked, whole_fault}
 use Rattle.bl_mps_terms.specs.Meaning.{coefficient, row_of, nonzero_of, IsColumnOf, is_maximum, Says, Reads}
-use Rattle.bl_mps_terms.specs.Faults.{section_fault, line_fault, at_line, or_else, lines_fault, in_column, columns_fault}
+use Rattle.bl_mps_terms.specs.Faults.{section_fault, line_fault, at_line, lines_fault, columns_fault}
 use Rattle.bl_mps_terms.specs.Faults.{model_fault, first_fault}
 use Rattle.bl_mps_write.specs.Canonical.{mps_text}
 use Rattle.bl_mps.proofs.LineParts.{LineParts, parts_of}
@@ -31,13 +28,13 @@ use Rattle.bl_mps_laws.proofs.CanonicalLines.{names_same, named_each}
 use Rattle.bl_mps_laws.proofs.CanonicalRows.{fields_names, rows_said, cost_said, entries_said}
 use Rattle.bl_mps_laws.proofs.CanonicalText.{column_text, column_texts, right_sides_of, ranges_of, tokens_of}
 use Rattle.bl_mps_laws.proofs.CanonicalText.{canonical_text, right_side_data, range_data}
-use Rattle.bl_mps_laws.proofs.ColumnLines.{pairs_in, column_data, names_for}
+use Rattle.bl_mps_laws.proofs.ColumnLines.{pairs_in, column_data}
 use Rattle.bl_mps_laws.proofs.ColumnTables.{column_data_pairs, column_data_marked}
 use Rattle.bl_mps_laws.proofs.PairLines.{set_pairs}
 use Rattle.bl_mps_laws.proofs.RowLines.{row_data, row_fields, row_data_bounded}
 use Rattle.bl_mps_laws.proofs.Sayable.{IsSayable, IsSayableColumn, names_of, column_names}
 use Rattle.bl_mps_laws.proofs.Tables.{given, texts}
-use Rattle.bl_mps_laws.proofs.Tokens.{Token, Begin, IsToken, text_of, line_of, word_of, lines_of-tokens}
+use Rattle.bl_mps_laws.proofs.Tokens.{Token, Begin, IsToken, line_of, word_of, lines_of-tokens}
 use Rattle.bl_mps_laws.proofs.Tokens.{lines_read-tokens}
 use Rattle.bl_mps_laws.proofs.Walks.{token_fault, line_fault-same, Walked, walked, leads_tokens, leads_not_end}
 

@@ -1,33 +1,33 @@
 -- The lines of a canonical text break no rule, and what stands under each section.
-use Rattle.std.proofs.Common.{◌≡◌, ℕ, ◌+◌, ◌<◌, ◌≤◌, Bool, true, false, List, [], ◌∷◌, ◌++◌, map, length, Option, Some}
+use Rattle.std.proofs.Common.{◌≡◌, Bool, true, false, List, [], ◌∷◌, map, length, Option, Some}
 use Rattle.std.proofs.Common.{None, refl, sym, ap, subst, ◌∙◌, arith, codes, rules}
 use Rattle.std.specs.List.{AllByRecursion}
 use Rattle.std.proofs.lemmas.List.{length-map}
-use Rattle.bl_limits.specs.declared.TheConstants.{MAX_TEXT_RHS, MAX_COLUMNS}
+use Rattle.bl_limits.specs.declared.TheConstants.{MAX_TEXT_RHS}
 use Rattle.bl_raw.specs.declared.raw.RawColumn.{RawColumn}
 use Rattle.bl_raw.specs.declared.raw.RawMps.{RawMps}
 use Rattle.bl_mps_terms.specs.declared.words.Section.{Section}
 use Rattle.bl_mps_terms.specs.declared.words.Section.TheVariants.{Name, ObjSense, Rows, Columns, RightSides, Ranges}
-use Rattle.bl_mps_terms.specs.declared.words.Section.TheVariants.{Bounds, End}
+use Rattle.bl_mps_terms.specs.declared.words.Section.TheVariants.{Bounds}
 use Rattle.bl_mps_terms.specs.Words.{Bytes}
 use Rattle.bl_mps_terms.specs.Parts.{section_after, sections_of, senses_from, data_from}
 use Rattle.bl_mps_terms.specs.Rules.{is_named}
 use Rattle.bl_mps_terms.specs.Lines.{row_names, row_fault, column_fault, right_side_fault, range_fault, bound_fault}
-use Rattle.bl_mps_terms.specs.Lines.{columns_of, names_in}
+use Rattle.bl_mps_terms.specs.Lines.{columns_of}
 use Rattle.bl_mps.proofs.LineParts.{LineParts, parts_of}
 use Rattle.bl_mps.proofs.Names.{IsFresh, same_true}
 use Rattle.bl_mps_laws.proofs.BoundLines.{bound_data, bound_data_fine}
 use Rattle.bl_mps_laws.proofs.CanonicalText.{right_sides_of, ranges_of, column_text, column_texts, right_side_data}
 use Rattle.bl_mps_laws.proofs.CanonicalText.{range_data, section_tokens, sense_tokens, tokens_of}
-use Rattle.bl_mps_laws.proofs.ColumnLines.{ColumnText, column_data, names_for, IsColumnText, column_data_fine}
+use Rattle.bl_mps_laws.proofs.ColumnLines.{column_data, names_for, IsColumnText, column_data_fine}
 use Rattle.bl_mps_laws.proofs.ColumnLines.{column_data_names}
 use Rattle.bl_mps_laws.proofs.Fresh.{or_second}
 use Rattle.bl_mps_laws.proofs.PairLines.{IsGoodPair, set_fine}
 use Rattle.bl_mps_laws.proofs.RowLines.{row_data, row_data_fine, row_data_names}
-use Rattle.bl_mps_laws.proofs.Sayable.{IsSayable, IsSayableColumn, names_of, column_names}
+use Rattle.bl_mps_laws.proofs.Sayable.{IsSayable, names_of, column_names}
 use Rattle.bl_mps_laws.proofs.Tables.{given, fresh_given}
-use Rattle.bl_mps_laws.proofs.Tokens.{Token, Begin, Fields, IsWord, word_of}
-use Rattle.bl_mps_laws.proofs.Usable.{all_names, right_sides_good, ranges_good, columns_good}
+use Rattle.bl_mps_laws.proofs.Tokens.{Begin, Fields, IsWord}
+use Rattle.bl_mps_laws.proofs.Usable.{right_sides_good, ranges_good, columns_good}
 use Rattle.bl_mps_laws.proofs.Walks.{Leads, leads_on, EachFine, data_lead}
 
 -- ---- what stands under each section so far
@@ -280,4 +280,5 @@ module _ (mps : RawMps) (h : IsSayable mps) where
       (leads_on (in_rows rows) (in_columns columns) (last mps) (section_tokens Columns columns) _ columns_lead
       (leads_on (in_columns columns) (in_right_sides right_sides) (last mps)
       (section_tokens RightSides right_sides) _ right_sides_lead
-      (leads_on (in_right_sides right_sides) (in_ranges ranges) (last mps) (section_tokens Ranges ranges) _ ranges_lead bounds_lead)))))
+      (leads_on (in_right_sides right_sides) (in_ranges ranges) (last mps) (section_tokens Ranges ranges) _ ranges_lead
+      bounds_lead)))))

@@ -1,5 +1,5 @@
 -- The rows and the columns that a canonical text says.
-use Rattle.std.proofs.Common.{◌≡◌, ℕ, ◌≤◌, Bool, List, [], ◌∷◌, map, Option, Some, None, ℤ, pos, refl, sym, ap, ◌∙◌}
+use Rattle.std.proofs.Common.{◌≡◌, List, [], ◌∷◌, map, Option, Some, ℤ, pos, refl, sym, ap, ◌∙◌}
 use Rattle.std.proofs.Common.{arith, length}
 use Rattle.std.specs.Prelude.{unwrap_or}
 use Rattle.std.specs.List.{AllByRecursion}
@@ -8,10 +8,9 @@ use Rattle.bl_limits.specs.declared.TheConstants.{MAX_NUMBER, MAX_TEXT_RHS}
 use Rattle.bl_raw.specs.declared.raw.RawRow.{RawRow}
 use Rattle.bl_raw.specs.declared.raw.RawColumn.{RawColumn}
 use Rattle.bl_raw.specs.declared.raw.RawMps.{RawMps}
-use Rattle.bl_mps_terms.specs.declared.words.RowKind.{RowKind}
 use Rattle.bl_mps_terms.specs.Words.{Bytes}
 use Rattle.bl_mps_terms.specs.Lines.{row_names}
-use Rattle.bl_mps_terms.specs.Meaning.{number_after, coefficient, row_of, nonzero_of, lhs_of, rhs_of}
+use Rattle.bl_mps_terms.specs.Meaning.{number_after, coefficient, row_of, nonzero_of}
 use Rattle.bl_mps_write.specs.Canonical.{form_of}
 use Rattle.bl_mps_laws.proofs.CanonicalText.{right_sides_of, ranges_of, column_text}
 use Rattle.bl_mps_laws.proofs.ColumnLines.{pairs_in}
@@ -77,7 +76,8 @@ module _ (mps : RawMps) (h : IsSayable mps) where
 
     found : map (λ n. number_after n pairs) (all_names mps h) ≡ numbers_with mps h column.cost c.numbers
     found =
-        ap (λ (ps : List (Bytes × ℤ)). map (λ n. number_after n (texts ps)) (all_names mps h)) (pairs_given mps h column c)
+        ap (λ (ps : List (Bytes × ℤ)). map (λ n. number_after n (texts ps)) (all_names mps h))
+        (pairs_given mps h column c)
         ∙ looked_up (all_names mps h) (numbers_with mps h column.cost c.numbers)
         (omega (arith, length-map mps.rows (λ row. row.name), length-map c.numbers unless_zero, c.count)) h.distinct
         (readable MAX_NUMBER (numbers_with mps h column.cost c.numbers) (omega arith)

@@ -1,15 +1,12 @@
 -- The canonical text of a model, token by token.
-use Rattle.std.proofs.Common.{◌≡◌, ℕ, zero, suc, ◌+◌, Bool, true, false, cond, not, List, [], ◌∷◌, ◌++◌, map, filter}
-use Rattle.std.proofs.Common.{length, get_or, Option, Some, None, ℤ, pos, negsuc, refl, sym, ap, ◌∙◌, arith, codes}
+use Rattle.std.proofs.Common.{◌≡◌, ℕ, zero, suc, Bool, true, false, List, [], ◌∷◌, ◌++◌, map}
+use Rattle.std.proofs.Common.{Option, Some, None, ℤ, pos, negsuc, refl, sym, ap, ◌∙◌, arith, codes}
 use Rattle.std.proofs.Common.{append_assoc}
-use Rattle.std.specs.List.{flat_map, enumerate_from}
+use Rattle.std.specs.List.{flat_map}
 use Rattle.std.specs.Ordering.{int_eq}
-use Rattle.std.specs.Fmt.{signed_decimal}
-use Rattle.std.proofs.Math.Seq.{get_or-append_seam}
 use Rattle.std.proofs.lemmas.Bool.Decides.{Decides-int_eq}
 use Rattle.std.proofs.lemmas.Grind.{flat_map-append}
 use Rattle.std.proofs.lemmas.Int.{ints}
-use Rattle.std.proofs.lemmas.List.{append-nil, length_push}
 use Rattle.bl_raw.specs.declared.raw.RawRow.{RawRow}
 use Rattle.bl_raw.specs.declared.raw.RawColumn.{RawColumn}
 use Rattle.bl_raw.specs.declared.raw.RawMps.{RawMps}
@@ -19,11 +16,11 @@ use Rattle.bl_mps_terms.specs.declared.words.Section.TheVariants.{Bounds, End}
 use Rattle.bl_mps_terms.specs.Words.{Bytes}
 use Rattle.bl_mps_terms.specs.Rules.{is_zero}
 use Rattle.bl_mps_write.specs.Canonical.{word_line, number_line, letter_of, form_of, sense_lines, row_lines, name_at}
-use Rattle.bl_mps_write.specs.Canonical.{coefficient_lines, cost_and_coefficients, column_lines, nonzero_line, rhs_lines}
-use Rattle.bl_mps_write.specs.Canonical.{range_line, range_lines, both_bounds, bound_lines, mps_text}
+use Rattle.bl_mps_write.specs.Canonical.{coefficient_lines, cost_and_coefficients, column_lines, nonzero_line}
+use Rattle.bl_mps_write.specs.Canonical.{rhs_lines, range_line, range_lines, bound_lines, mps_text}
 use Rattle.bl_mps.proofs.Names.{bool_false}
 use Rattle.bl_mps_laws.proofs.BoundLines.{bound_data}
-use Rattle.bl_mps_laws.proofs.ColumnLines.{ColumnText, pairs_in, column_fields, lines_for, all_lines, column_data}
+use Rattle.bl_mps_laws.proofs.ColumnLines.{ColumnText, pairs_in, lines_for, all_lines, column_data}
 use Rattle.bl_mps_laws.proofs.PairLines.{set_data}
 use Rattle.bl_mps_laws.proofs.RowLines.{row_data, row_fields}
 use Rattle.bl_mps_laws.proofs.Sayable.{names_of}

@@ -1,6 +1,6 @@
 -- The lines under COLUMNS of a canonical text break no rule.
-use Rattle.std.proofs.Common.{◌≡◌, ℕ, suc, ◌+◌, ◌-◌, ◌<◌, ◌≤◌, Bool, true, false, cond, ◌||◌, List, [], ◌∷◌, ◌++◌, map}
-use Rattle.std.proofs.Common.{length, take, drop, ltb, Option, Some, None, ℤ, refl, sym, ap, subst, ◌∙◌, arith, codes}
+use Rattle.std.proofs.Common.{◌≡◌, ◌+◌, ◌-◌, ◌<◌, ◌≤◌, Bool, false, cond, List, [], ◌∷◌, ◌++◌, map}
+use Rattle.std.proofs.Common.{length, None, ℤ, refl, sym, ap, subst, ◌∙◌, arith, codes}
 use Rattle.std.proofs.Common.{append_assoc, fold, rules}
 use Rattle.std.specs.Fmt.{signed_decimal}
 use Rattle.std.specs.List.{flat_map, AllByRecursion}
@@ -9,11 +9,10 @@ use Rattle.std.proofs.Math.Seq.{take-append_seam}
 use Rattle.std.proofs.lemmas.Bool.{lt-ltb}
 use Rattle.std.proofs.lemmas.List.{map_push, append-nil, length_push}
 use Rattle.bl_limits.specs.declared.TheConstants.{MAX_COLUMNS, MAX_NUMBER}
-use Rattle.bl_mps_terms.specs.declared.fault.MpsRule.{MpsRule}
 use Rattle.bl_mps_terms.specs.Words.{Bytes}
 use Rattle.bl_mps_terms.specs.Parts.{field}
 use Rattle.bl_mps_terms.specs.Rules.{is_named}
-use Rattle.bl_mps_terms.specs.Lines.{row_names, names_in, is_marker, columns_of, appended, pairs_on, name_fault}
+use Rattle.bl_mps_terms.specs.Lines.{row_names, names_in, columns_of, appended, pairs_on, name_fault}
 use Rattle.bl_mps_terms.specs.Lines.{column_fault}
 use Rattle.bl_mps.proofs.ColumnNames.{columns_of-push, column_lines-marker, pairs_on-push, pairs_on-none, pairs_of}
 use Rattle.bl_mps.proofs.Names.{IsFresh, same_true}
@@ -152,7 +151,8 @@ module _ (rows : List (List Bytes)) where
             (ap (λ (ns : List Bytes). is_named ns pair.0) none),
         rest_fine (before ++ column_fields name pair ∷ []) name names column.more h.word
             (columns_new before name pair names h.pairs.0 are new) new
-            (subst (λ (ns : List Bytes). IsFresh (ns ++ names_in (texts column.more))) (sym known) h.distinct) h.pairs.1,
+            (subst (λ (ns : List Bytes). IsFresh (ns ++ names_in (texts column.more))) (sym known) h.distinct)
+            h.pairs.1,
       )
 
   rest_columns : (before : List (List Bytes)) (name : Bytes) (names : List Bytes) (pairs : List (Bytes × ℤ))

@@ -1,6 +1,6 @@
 -- What the lines under COLUMNS of a canonical text say of each column.
-use Rattle.std.proofs.Common.{◌≡◌, ℕ, Bool, true, false, cond, not, ◌||◌, List, [], ◌∷◌, ◌++◌, map, drop, filter, ℤ}
-use Rattle.std.proofs.Common.{refl, sym, ap, ◌∙◌, codes, append_assoc}
+use Rattle.std.proofs.Common.{◌≡◌, Bool, true, false, ◌||◌, List, [], ◌∷◌, ◌++◌, filter, ℤ}
+use Rattle.std.proofs.Common.{refl, ap, ◌∙◌, codes, append_assoc}
 use Rattle.std.proofs.lemmas.Bool.{false≢true}
 use Rattle.std.specs.List.{flat_map, AllByRecursion}
 use Rattle.std.specs.Str.{bytes_eq}
@@ -9,11 +9,11 @@ use Rattle.std.proofs.lemmas.List.{append-nil}
 use Rattle.std.proofs.lemmas.List.Elements.{filter-append}
 use Rattle.bl_mps_terms.specs.Words.{Bytes}
 use Rattle.bl_mps_terms.specs.Parts.{field}
-use Rattle.bl_mps_terms.specs.Rules.{is_named, pairs_from}
-use Rattle.bl_mps_terms.specs.Lines.{is_marker, column_lines, pairs_on, is_marked_from, is_marked}
+use Rattle.bl_mps_terms.specs.Rules.{is_named}
+use Rattle.bl_mps_terms.specs.Lines.{column_lines, pairs_on, is_marked_from, is_marked}
 use Rattle.bl_mps.proofs.Names.{IsFresh, or_false, same_true}
 use Rattle.bl_mps.proofs.ColumnNames.{pairs_of, column_lines-marker}
-use Rattle.bl_mps_laws.proofs.ColumnLines.{ColumnText, pairs_in, column_fields, lines_for, all_lines, marker_fields}
+use Rattle.bl_mps_laws.proofs.ColumnLines.{ColumnText, pairs_in, lines_for, all_lines, marker_fields}
 use Rattle.bl_mps_laws.proofs.ColumnLines.{column_data, names_for, IsColumnPair, IsColumnText}
 use Rattle.bl_mps_laws.proofs.Fresh.{differ_sym}
 use Rattle.bl_mps_laws.proofs.Tables.{texts}

@@ -1,5 +1,5 @@
 -- The decimal text of a number is a word.
-use Rattle.std.proofs.Common.{◌≡◌, ℕ, suc, ◌<◌, ◌≤◌, Bool, false, eqb, List, [], ◌∷◌, length, refl, arith, ℤ, pos}
+use Rattle.std.proofs.Common.{◌≡◌, ℕ, suc, ◌<◌, ◌≤◌, false, eqb, List, [], ◌∷◌, length, refl, arith, ℤ, pos}
 use Rattle.std.proofs.Common.{negsuc, unsigned_abs}
 use Rattle.std.specs.Fmt.{decimal, signed_decimal}
 use Rattle.std.specs.Int.{IsInRange}

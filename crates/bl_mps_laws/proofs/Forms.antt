@@ -1,5 +1,5 @@
 -- How a row is written, and that it is read as the row.
-use Rattle.std.proofs.Common.{◌≡◌, ℕ, ◌≤◌, Bool, true, false, cond, List, Option, Some, None, ℤ, pos, negsuc, refl, sym}
+use Rattle.std.proofs.Common.{◌≡◌, ℕ, Bool, true, false, Option, Some, None, ℤ, pos, negsuc, refl, sym}
 use Rattle.std.proofs.Common.{ap, subst, ◌∙◌, arith, ◌⊎◌, inl, inr, unsigned_abs}
 use Rattle.std.specs.Prelude.{◌-ℤ◌, ◌+ℤ◌, ◌≤ℤ◌, nat_le, IfSome}
 use Rattle.std.specs.Ordering.{int_eq}
@@ -8,7 +8,7 @@ use Rattle.std.proofs.lemmas.Bool.Decides.{Decides-int_eq, nat_tests}
 use Rattle.std.proofs.lemmas.Int.{ints}
 use Rattle.bl_limits.specs.declared.TheConstants.{MAX_TEXT_RHS}
 use Rattle.bl_mps_terms.specs.declared.words.RowKind.{RowKind}
-use Rattle.bl_mps_terms.specs.declared.words.RowKind.TheVariants.{Free, AtMost, AtLeast, Equal}
+use Rattle.bl_mps_terms.specs.declared.words.RowKind.TheVariants.{AtMost, AtLeast, Equal}
 use Rattle.bl_mps_terms.specs.Lines.{is_free}
 use Rattle.bl_mps_terms.specs.Meaning.{lhs_of, rhs_of}
 use Rattle.bl_mps_write.specs.Canonical.{two_sided, form_of_sides}

@@ -1,10 +1,10 @@
 -- Names of which each stands once.
-use Rattle.std.proofs.Common.{◌≡◌, ℕ, zero, suc, ◌<◌, Bool, true, false, ◌||◌, List, [], ◌∷◌, ◌++◌, take, length, refl, sym}
-use Rattle.std.proofs.Common.{ap, ◌∙◌, arith}
+use Rattle.std.proofs.Common.{◌≡◌, ℕ, zero, suc, Bool, true, false, ◌||◌, List, [], ◌∷◌, ◌++◌, take, refl, sym}
+use Rattle.std.proofs.Common.{◌∙◌}
 use Rattle.std.specs.Str.{bytes_eq}
 use Rattle.bl_mps_terms.specs.Words.{Bytes}
 use Rattle.bl_mps_terms.specs.Rules.{is_named}
-use Rattle.bl_mps.proofs.Names.{IsFresh, differ_false, differ_from, same_from, same_true, or_false, named-append}
+use Rattle.bl_mps.proofs.Names.{IsFresh, differ_false, differ_from, same_true, or_false, named-append}
 
 pub differ_sym : (x y : Bytes) → bytes_eq x y ≡ false → bytes_eq y x ≡ false
 differ_sym x y f = differ_false y x (λ e. differ_from x y f (sym e))

@@ -1,11 +1,11 @@
 -- What lines that break no rule keep.
-use Rattle.std.proofs.Common.{◌≡◌, ℕ, suc, ◌+◌, ◌<◌, ◌≤◌, Bool, true, false, cond, not, ◌||◌, ◌&&◌, eqb, ltb, List, []}
-use Rattle.std.proofs.Common.{◌∷◌, ◌++◌, map, length, Option, Some, None, is_some, ℤ, refl, sym, ap, subst, ◌∙◌, arith}
+use Rattle.std.proofs.Common.{◌≡◌, ℕ, ◌+◌, ◌≤◌, Bool, true, false, cond, not, ◌||◌, eqb, ltb, List, []}
+use Rattle.std.proofs.Common.{◌∷◌, ◌++◌, map, length, Option, Some, None, is_some, refl, sym, ap, subst, ◌∙◌, arith}
 use Rattle.std.proofs.Common.{codes, append_assoc, drop, fold, take, filter, ◌-◌}
 use Rattle.std.specs.Option.{option_map}
 use Rattle.std.specs.List.{AllByRecursion, flat_map}
 use Rattle.std.specs.Str.{bytes_eq}
-use Rattle.std.proofs.lemmas.Bool.{false≢true, ltb-true, eqb-true}
+use Rattle.std.proofs.lemmas.Bool.{false≢true, ltb-true}
 use Rattle.std.proofs.lemmas.Grind.{flat_map-append}
 use Rattle.std.proofs.lemmas.List.{append-nil, map_push, length_push}
 use Rattle.std.proofs.lemmas.List.Elements.{filter-append}
@@ -21,13 +21,13 @@ use Rattle.bl_mps_terms.specs.declared.words.Section.TheVariants.{Bounds, End}
 use Rattle.bl_mps_terms.specs.Words.{Bytes, row_kind, section_named}
 use Rattle.bl_mps_terms.specs.Parts.{field, is_skipped, begins_section, section_after, is_end, lines_read}
 use Rattle.bl_mps_terms.specs.Parts.{sections_of, senses_from, data_from}
-use Rattle.bl_mps_terms.specs.Rules.{first_of, when, unless, is_named, number_fault, pair_fault, pairs_fault, pairs_from}
-use Rattle.bl_mps_terms.specs.Rules.{has_constant}
+use Rattle.bl_mps_terms.specs.Rules.{first_of, when, unless, is_named, number_fault, pair_fault, pairs_fault}
+use Rattle.bl_mps_terms.specs.Rules.{pairs_from}
 use Rattle.bl_mps_terms.specs.Lines.{is_free_row, row_names, bounded_rows, row_fault, is_marker, columns_of, appended}
-use Rattle.bl_mps_terms.specs.Lines.{column_lines, pairs_on, name_fault, names_in, column_fault, is_even, pairs_of_set}
+use Rattle.bl_mps_terms.specs.Lines.{pairs_on, name_fault, names_in, column_fault, is_even, pairs_of_set}
 use Rattle.bl_mps_terms.specs.Lines.{set_fault, objective_of}
-use Rattle.bl_mps_terms.specs.Faults.{section_fault, heading_fault, data_fault, line_fault, at_line, or_else, lines_fault}
-use Rattle.bl_mps_terms.specs.Faults.{has_good_sense, may_begin}
+use Rattle.bl_mps_terms.specs.Faults.{section_fault, heading_fault, data_fault, line_fault, at_line, or_else}
+use Rattle.bl_mps_terms.specs.Faults.{lines_fault}
 use Rattle.bl_mps.proofs.ColumnNames.{columns_of-push, column_lines-marker, pairs_on-push, pairs_of}
 use Rattle.bl_mps.proofs.LineParts.{LineParts, parts_of, pushed, parts-push, pushed_skipped, heading_added}
 use Rattle.bl_mps.proofs.LineParts.{pushed_heading, data_added, pushed_data}
@@ -101,13 +101,16 @@ rows_step rows line e words h =
     let room = none_first (unless (is_free_row line || ltb (length (bounded_rows rows)) MAX_TEXT_ROWS) rules.TooMany)
     [] there.1 in
     record {
-      lines = all_append IsRowLine rows (line ∷ []) h.lines (record {
-        kind = none_unless _ rules.BadFields kind.0;
-        name = record {
-          word = second_word line (none_unless _ rules.BadFields fields.0) words;
-          apart = none_when _ rules.BadFields marker.0;
-        };
-      }, tt);
+      lines = all_append IsRowLine rows (line ∷ []) h.lines (
+        record {
+          kind = none_unless _ rules.BadFields kind.0;
+          name = record {
+            word = second_word line (none_unless _ rules.BadFields fields.0) words;
+            apart = none_when _ rules.BadFields marker.0;
+          };
+        },
+        tt,
+      );
       distinct = subst IsFresh (sym (map_push (field 1) rows line))
           (fresh_push (row_names rows) (field 1 line) h.distinct (none_when _ rules.DuplicateRow there.0));
       count = bounded_count rows line (is_free_row line) refl (none_unless _ rules.TooMany room.0) h.count;
@@ -143,15 +146,15 @@ set_step : (objective : Option Bytes) (rows before : List (List Bytes)) (line : 
 set_step objective rows before line e h =
     let fields = none_first
     (unless (is_even (length line) || (eqb (length line) 3 || eqb (length line) 5)) rules.BadFields) _ e in
-    let pairs = none_first (pairs_fault (row_names rows) MAX_TEXT_RHS objective (names_in (flat_map pairs_of_set before))
-    (pairs_of_set line)) [] fields.1 in
+    let used = names_in (flat_map pairs_of_set before) in
+    let pairs = none_first (pairs_fault (row_names rows) MAX_TEXT_RHS objective used (pairs_of_set line)) []
+    fields.1 in
     record {
       small = subst (AllByRecursion (IsNumbered MAX_TEXT_RHS))
           (sym (flat_map-append pairs_of_set before (line ∷ [])
           ∙ ap (λ (ps : List (Bytes × Bytes)). flat_map pairs_of_set before ++ ps) (append-nil (pairs_of_set line))))
           (all_append (IsNumbered MAX_TEXT_RHS) (flat_map pairs_of_set before) (pairs_of_set line) h.small
-          (pairs_numbered (row_names rows) MAX_TEXT_RHS objective (names_in (flat_map pairs_of_set before))
-          (pairs_of_set line) pairs.0));
+          (pairs_numbered (row_names rows) MAX_TEXT_RHS objective used (pairs_of_set line) pairs.0));
     }
 
 -- ---- columns
@@ -225,7 +228,8 @@ column_step rows lines line m e words h =
     name_step (columns_of lines) (field 0 line) (is_named (columns_of lines) (field 0 line)) refl
     (first_word line (none_unless _ rules.BadFields fields.0) words) (none_unless _ rules.TooMany room.0)
     (record { words = h.words; distinct = h.distinct; count = h.count }) in
-    let next : NamesKeep (columns_of (lines ++ line ∷ [])) = subst NamesKeep (sym (columns_of-push lines line m)) kept in
+    let next : NamesKeep (columns_of (lines ++ line ∷ [])) =
+    subst NamesKeep (sym (columns_of-push lines line m)) kept in
     record {
       words = next.words;
       distinct = next.distinct;

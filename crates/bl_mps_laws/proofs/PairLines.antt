@@ -1,6 +1,6 @@
 -- A pair of a row and a number breaks no rule; the lines under RHS and RANGES of a canonical text.
-use Rattle.std.proofs.Common.{◌≡◌, ℕ, suc, ◌<◌, ◌≤◌, Bool, true, false, ◌||◌, List, [], ◌∷◌, ◌++◌, map, length, ℤ, pos}
-use Rattle.std.proofs.Common.{Option, Some, None, Result, Ok, Err, ltb, refl, sym, ap, subst, ◌∙◌, arith, codes}
+use Rattle.std.proofs.Common.{◌≡◌, ℕ, ◌≤◌, true, false, List, [], ◌∷◌, ◌++◌, map, ℤ}
+use Rattle.std.proofs.Common.{Option, None, Result, refl, sym, ap, subst, ◌∙◌, arith}
 use Rattle.std.proofs.Common.{append_assoc, unsigned_abs}
 use Rattle.std.specs.Fmt.{signed_decimal}
 use Rattle.std.specs.List.{flat_map, AllByRecursion}
@@ -8,14 +8,12 @@ use Rattle.std.specs.Option.{option_map_or}
 use Rattle.std.specs.Str.{bytes_eq}
 use Rattle.std.proofs.lemmas.Bool.{le-leb}
 use Rattle.std.proofs.lemmas.Grind.{flat_map-append}
-use Rattle.std.proofs.lemmas.List.{map_push, append-nil}
+use Rattle.std.proofs.lemmas.List.{map_push}
 use Rattle.bl_limits.specs.declared.TheConstants.{MAX_WHOLE}
-use Rattle.bl_num.specs.Numbers.{read_of}
 use Rattle.bl_num.specs.declared.fault.NumFault.{NumFault}
 use Rattle.bl_num.proofs.Meanings.{reads_decimals}
-use Rattle.bl_mps_terms.specs.declared.fault.MpsRule.{MpsRule}
 use Rattle.bl_mps_terms.specs.Words.{Bytes}
-use Rattle.bl_mps_terms.specs.Rules.{is_named, within, fault_in, number_fault, has_constant, pair_fault, pairs_fault}
+use Rattle.bl_mps_terms.specs.Rules.{is_named, within, fault_in, number_fault, pairs_fault}
 use Rattle.bl_mps_terms.specs.Lines.{row_names, names_in, pairs_of_set, set_fault}
 use Rattle.bl_mps.proofs.Names.{IsFresh}
 use Rattle.bl_mps_laws.proofs.Decimals.{number_word}

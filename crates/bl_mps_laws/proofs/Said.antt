@@ -1,13 +1,12 @@
 -- What a text says, its canonical text can say; and so it says it.
-use Rattle.std.proofs.Common.{◌≡◌, ℕ, ◌<◌, ◌≤◌, Bool, true, false, cond, List, [], ◌∷◌, ◌++◌, map, length, Option, Some}
-use Rattle.std.proofs.Common.{None, Result, Ok, Err, ℤ, is_none, nat_lt, unsigned_abs, refl, sym, ap, subst, ◌∙◌, arith}
+use Rattle.std.proofs.Common.{◌≡◌, ℕ, ◌<◌, ◌≤◌, Bool, true, false, cond, List, [], ◌∷◌, length, Option, Some}
+use Rattle.std.proofs.Common.{None, Result, Ok, Err, ℤ, is_none, nat_lt, refl, sym, ap, subst, ◌∙◌}
 use Rattle.std.proofs.Common.{inl, inr, ◌⊎◌}
 use Rattle.std.specs.List.{AllByRecursion, flat_map}
 use Rattle.std.proofs.lemmas.Bool.{lt-ltb}
 use Rattle.std.proofs.lemmas.List.{length-map}
-use Rattle.bl_limits.specs.declared.TheConstants.{MAX_NUMBER, MAX_TEXT_BYTES, MAX_TEXT_ROWS, MAX_COLUMNS}
+use Rattle.bl_limits.specs.declared.TheConstants.{MAX_TEXT_BYTES, MAX_TEXT_ROWS, MAX_COLUMNS}
 use Rattle.bl_raw.specs.Raw.{IsSmall}
-use Rattle.bl_raw.specs.declared.raw.RawRow.{RawRow}
 use Rattle.bl_raw.specs.declared.raw.RawMps.{RawMps}
 use Rattle.bl_text.specs.Lines.{lines_of}
 use Rattle.bl_text.proofs.LineLaws.{is_its_lines}
@@ -16,14 +15,13 @@ use Rattle.bl_mps_terms.specs.declared.fault.MpsRule.TheVariants as rules
 use Rattle.bl_mps_terms.specs.declared.words.Section.TheVariants.{Rows, Columns, RightSides, Ranges, Bounds}
 use Rattle.bl_mps_terms.specs.Words.{Bytes}
 use Rattle.bl_mps_terms.specs.Parts.{field, under, lines_read}
-use Rattle.bl_mps_terms.specs.Lines.{objective_of, row_names, bounded_rows, columns_of, pairs_of_set, is_marked}
-use Rattle.bl_mps_terms.specs.Lines.{bounds_on, whole_fault}
-use Rattle.bl_mps_terms.specs.Meaning.{row_of, Says, Reads}
+use Rattle.bl_mps_terms.specs.Lines.{objective_of, row_names, bounded_rows, columns_of, pairs_of_set}
+use Rattle.bl_mps_terms.specs.Meaning.{row_of, Reads}
 use Rattle.bl_mps_terms.specs.Faults.{at_line, or_else, lines_fault, columns_fault, model_fault, first_fault}
 use Rattle.bl_mps_read.specs.declared.error.MpsError.{MpsError}
 use Rattle.bl_mps_read.specs.declared.error.MpsError.TheVariants.{Fault, Memory}
 use Rattle.bl_mps_write.specs.Canonical.{mps_text}
-use Rattle.bl_mps.specs.Read.{IsRead, OneReading}
+use Rattle.bl_mps.specs.Read.{IsRead}
 use Rattle.bl_mps.proofs.LineParts.{parts_of}
 use Rattle.bl_mps.proofs.Names.{IsFresh}
 use Rattle.bl_mps.proofs.OneModel.{has_one_reading}

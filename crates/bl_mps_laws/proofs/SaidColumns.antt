@@ -1,5 +1,5 @@
 -- The columns that a text says are those that its canonical text can say.
-use Rattle.std.proofs.Common.{◌≡◌, ℕ, ◌+◌, ◌<◌, ◌≤◌, Bool, true, false, cond, not, ◌||◌, ◌&&◌, List, [], ◌∷◌, map, length}
+use Rattle.std.proofs.Common.{◌≡◌, ℕ, ◌+◌, Bool, true, false, cond, not, ◌||◌, ◌&&◌, List, [], ◌∷◌, map, length}
 use Rattle.std.proofs.Common.{Option, Some, None, is_some, Result, Ok, Err, ℤ, pos, unsigned_abs, leb, refl, sym, ap}
 use Rattle.std.proofs.Common.{subst, ◌∙◌, arith}
 use Rattle.std.specs.Prelude.{IfSome, unwrap_or, ◌≤ℤ◌, int_lt}
@@ -23,7 +23,7 @@ use Rattle.bl_mps_terms.specs.declared.words.BoundKind.TheVariants.{Up, Lo, Fx, 
 use Rattle.bl_mps_terms.specs.declared.words.Section.TheVariants.{Rows, Columns, Bounds}
 use Rattle.bl_mps_terms.specs.Words.{Bytes}
 use Rattle.bl_mps_terms.specs.Parts.{under}
-use Rattle.bl_mps_terms.specs.Rules.{first_of, when, unless}
+use Rattle.bl_mps_terms.specs.Rules.{when, unless}
 use Rattle.bl_mps_terms.specs.Lines.{BoundLine, bound_within, bound_read, bounds_on, number_given, lower_set, upper_set}
 use Rattle.bl_mps_terms.specs.Lines.{last_set, lower_of, upper_of, makes_integer, sets_lower, is_above, whole_fault}
 use Rattle.bl_mps_terms.specs.Lines.{is_marked, objective_of, row_names, bounded_rows, pairs_on}
@@ -207,8 +207,8 @@ module _ (default : ℤ) (small : IsSmall default) (lines : List Bytes) (objecti
       (column_said name column words.0 fine.0 are.0, columns_said names columns words.1 fine.1 are.1)
 
   -- Their names.
-  pub column_names_said : (names : List Bytes) (columns : List RawColumn) → AllZip (IsColumnOf default lines) names columns
-      → names ≡ column_names columns
+  pub column_names_said : (names : List Bytes) (columns : List RawColumn)
+      → AllZip (IsColumnOf default lines) names columns → names ≡ column_names columns
   column_names_said [] [] are = refl
   column_names_said [] (column ∷ columns) are = absurd are
   column_names_said (name ∷ names) [] are = absurd are

@@ -1,9 +1,9 @@
 -- The rows that a text says are those that its canonical text can say.
-use Rattle.std.proofs.Common.{◌≡◌, ℕ, zero, suc, ◌<◌, ◌≤◌, Bool, true, false, cond, not, ◌||◌, List, [], ◌∷◌, map, filter}
-use Rattle.std.proofs.Common.{length, Option, Some, None, Result, Ok, Err, ℤ, pos, negsuc, refl, sym, ap, subst, ◌∙◌}
+use Rattle.std.proofs.Common.{◌≡◌, ℕ, suc, ◌≤◌, Bool, true, false, cond, not, List, [], ◌∷◌, map}
+use Rattle.std.proofs.Common.{Option, Some, None, Result, Ok, Err, ℤ, pos, negsuc, refl, sym, ap, subst}
 use Rattle.std.proofs.Common.{arith, inl, inr, ◌⊎◌, unsigned_abs, leb, is_some}
-use Rattle.std.specs.Prelude.{IfSome, unwrap_or, ◌+ℤ◌, ◌-ℤ◌, ◌≤ℤ◌}
-use Rattle.std.specs.List.{AllByRecursion, flat_map}
+use Rattle.std.specs.Prelude.{IfSome, unwrap_or, ◌+ℤ◌, ◌-ℤ◌}
+use Rattle.std.specs.List.{AllByRecursion}
 use Rattle.std.specs.Option.{option_map_or}
 use Rattle.std.specs.Result.{result_unwrap_or}
 use Rattle.std.specs.Str.{bytes_eq}
@@ -12,8 +12,6 @@ use Rattle.std.proofs.lemmas.Int.{ints}
 use Rattle.bl_limits.specs.declared.TheConstants.{MAX_TEXT_RHS}
 use Rattle.bl_num.specs.Numbers.{read_of}
 use Rattle.bl_num.specs.declared.fault.NumFault.{NumFault}
-use Rattle.bl_raw.specs.declared.raw.RawRow.{RawRow}
-use Rattle.bl_mps_terms.specs.declared.fault.MpsRule.{MpsRule}
 use Rattle.bl_mps_terms.specs.declared.fault.MpsRule.TheVariants as rules
 use Rattle.bl_mps_terms.specs.declared.words.RowKind.{RowKind}
 use Rattle.bl_mps_terms.specs.declared.words.RowKind.TheVariants.{Free, AtMost, AtLeast, Equal}
@@ -221,7 +219,8 @@ objective_apart [] objective e h = absurd cc
 objective_apart (line ∷ rows) objective e h =
     apart_by (is_free_row line) line rows objective e h.0 (λ f. objective_apart rows objective f h.1)
 
-fresh_by : (free : Bool) (line : List Bytes) (rows : List (List Bytes)) → is_named (row_names rows) (field 1 line) ≡ false
+fresh_by : (free : Bool) (line : List Bytes) (rows : List (List Bytes))
+    → is_named (row_names rows) (field 1 line) ≡ false
     → IsFresh (row_names (bounded_rows rows))
     → IsFresh (row_names (cond (not free) (line ∷ bounded_rows rows) (bounded_rows rows)))
 fresh_by true line rows f h = h

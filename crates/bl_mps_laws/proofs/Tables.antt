@@ -1,6 +1,6 @@
 -- Numbers beside names, as pairs of a text, and back.
-use Rattle.std.proofs.Common.{◌≡◌, ℕ, zero, suc, ◌+◌, ◌<◌, ◌≤◌, Bool, true, false, cond, List, [], ◌∷◌, ◌++◌, map}
-use Rattle.std.proofs.Common.{length, Option, Some, None, Result, Ok, Err, ℤ, pos, negsuc, unsigned_abs, is_some}
+use Rattle.std.proofs.Common.{◌≡◌, zero, suc, ◌≤◌, false, cond, List, [], ◌∷◌, map}
+use Rattle.std.proofs.Common.{length, Option, Some, None, Result, ℤ, pos, negsuc, unsigned_abs, is_some}
 use Rattle.std.proofs.Common.{refl, sym, ap, ◌∙◌, arith}
 use Rattle.std.specs.Prelude.{unwrap_or}
 use Rattle.std.specs.Fmt.{signed_decimal}
@@ -8,7 +8,6 @@ use Rattle.std.specs.List.{AllByRecursion}
 use Rattle.std.specs.Result.{result_unwrap_or}
 use Rattle.std.specs.Str.{bytes_eq}
 use Rattle.bl_limits.specs.declared.TheConstants.{MAX_WHOLE}
-use Rattle.bl_num.specs.Numbers.{read_of}
 use Rattle.bl_num.specs.declared.fault.NumFault.{NumFault}
 use Rattle.bl_num.proofs.Meanings.{reads_decimals}
 use Rattle.bl_mps_terms.specs.Words.{Bytes}

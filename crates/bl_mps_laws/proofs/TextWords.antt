@@ -1,5 +1,5 @@
 -- The fields of a text's lines are words.
-use Rattle.std.proofs.Common.{◌≡◌, ℕ, Bool, true, false, eqb, cond, List, [], ◌∷◌, ◌++◌, filter, refl}
+use Rattle.std.proofs.Common.{◌≡◌, ℕ, Bool, true, false, eqb, cond, List, [], ◌∷◌, filter, refl}
 use Rattle.std.specs.List.{onto_first, slice_split, AllByRecursion}
 use Rattle.bl_text.specs.Fields.{is_blank, is_nonempty, fields_of, IsField}
 use Rattle.bl_text.specs.Lines.{IsLine}

@@ -1,5 +1,5 @@
 -- The lines of a text without comments and without further blanks: section lines and data lines.
-use Rattle.std.proofs.Common.{◌≡◌, ℕ, Bool, true, false, List, [], ◌∷◌, ◌++◌, map, refl, sym, ap, ◌∙◌, codes}
+use Rattle.std.proofs.Common.{◌≡◌, ℕ, true, false, List, [], ◌∷◌, ◌++◌, map, refl, sym, ap, ◌∙◌, codes}
 use Rattle.std.proofs.Common.{append_assoc, length, Some, arith, rules, not, ◌+◌, suc, take}
 use Rattle.std.proofs.lemmas.Bool.{ne_eqb}
 use Rattle.std.specs.List.{flat_map, prefix_len, AllByRecursion}

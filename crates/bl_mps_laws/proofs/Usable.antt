@@ -1,13 +1,13 @@
 -- The pairs of a canonical text may stand in it.
-use Rattle.std.proofs.Common.{◌≡◌, ℕ, suc, ◌+◌, ◌<◌, ◌≤◌, Bool, true, false, cond, not, ◌||◌, List, [], ◌∷◌, ◌++◌, map}
+use Rattle.std.proofs.Common.{◌≡◌, ℕ, suc, ◌+◌, ◌≤◌, Bool, true, false, not, List, [], ◌∷◌, ◌++◌, map}
 use Rattle.std.proofs.Common.{filter, length, get_or, Option, Some, None, ℤ, pos, negsuc, unsigned_abs, refl, sym, ap}
-use Rattle.std.proofs.Common.{subst, ◌∙◌, arith, codes, append_assoc, zero}
+use Rattle.std.proofs.Common.{subst, ◌∙◌, arith, append_assoc, zero}
 use Rattle.std.specs.Prelude.{IfSome}
 use Rattle.std.specs.List.{AllByRecursion, enumerate_from}
 use Rattle.std.specs.Option.{option_map_or}
 use Rattle.std.specs.Str.{bytes_eq}
 use Rattle.std.proofs.Math.Seq.{get_or-append_seam}
-use Rattle.std.proofs.lemmas.List.{append-nil, length_push, length-map}
+use Rattle.std.proofs.lemmas.List.{length_push, length-map}
 use Rattle.bl_limits.specs.declared.TheConstants.{MAX_NUMBER, MAX_TEXT_RHS, MAX_WHOLE}
 use Rattle.bl_raw.specs.Raw.{IsSmall}
 use Rattle.bl_raw.specs.declared.raw.RawRow.{RawRow}
@@ -17,7 +17,7 @@ use Rattle.bl_mps_terms.specs.Words.{Bytes}
 use Rattle.bl_mps_terms.specs.Rules.{is_named, is_zero}
 use Rattle.bl_mps_terms.specs.Lines.{names_in}
 use Rattle.bl_mps_terms.specs.Meaning.{nonzero_of}
-use Rattle.bl_mps_write.specs.Canonical.{form_of, name_at}
+use Rattle.bl_mps_write.specs.Canonical.{form_of}
 use Rattle.bl_mps.proofs.Names.{IsFresh, or_false, same_true}
 use Rattle.bl_mps_laws.proofs.CanonicalText.{right_sides_of, ranges_of, entry_pairs, column_text}
 use Rattle.bl_mps_laws.proofs.ColumnLines.{pairs_in, IsColumnPair, IsColumnText}

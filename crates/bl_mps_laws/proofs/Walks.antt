@@ -1,24 +1,19 @@
 -- The lines of a text token by token: what stands under each section behind a token, and what a token breaks.
-use Rattle.std.proofs.Common.{◌≡◌, ℕ, Bool, true, false, cond, List, [], ◌∷◌, ◌++◌, map, Option, Some, None, refl, sym}
-use Rattle.std.proofs.Common.{ap, subst, ◌∙◌, append_assoc, length, ◌+◌}
+use Rattle.std.proofs.Common.{◌≡◌, false, List, [], ◌∷◌, ◌++◌, map, Option, Some, None, refl, sym}
+use Rattle.std.proofs.Common.{ap, subst, ◌∙◌, append_assoc}
 use Rattle.std.proofs.lemmas.List.{append-nil}
 use Rattle.std.specs.List.{AllByRecursion}
-use Rattle.std.specs.Option.{option_map}
-use Rattle.bl_text.specs.Fields.{fields_of}
 use Rattle.bl_mps_terms.specs.declared.fault.MpsRule.{MpsRule}
-use Rattle.bl_mps_terms.specs.declared.fault.MpsFault.{MpsFault}
 use Rattle.bl_mps_terms.specs.declared.words.Section.{Section}
 use Rattle.bl_mps_terms.specs.declared.words.Section.TheVariants.{Name, ObjSense, Rows, Columns, RightSides, Ranges}
 use Rattle.bl_mps_terms.specs.declared.words.Section.TheVariants.{Bounds, End}
 use Rattle.bl_mps_terms.specs.Words.{Bytes, section_named}
 use Rattle.bl_mps_terms.specs.Parts.{field, is_end}
 use Rattle.bl_mps_terms.specs.Lines.{sense_fault, row_fault, column_fault, right_side_fault, range_fault, bound_fault}
-use Rattle.bl_mps_terms.specs.Faults.{section_fault, heading_fault, data_fault, line_fault, at_line, or_else}
+use Rattle.bl_mps_terms.specs.Faults.{section_fault, heading_fault, data_fault, line_fault}
 use Rattle.bl_mps_terms.specs.Faults.{lines_fault}
-use Rattle.bl_mps_terms.specs.Parts.{is_skipped, begins_section}
-use Rattle.bl_mps_terms.specs.Rules.{first_of}
 use Rattle.bl_mps_terms.specs.declared.fault.MpsRule.TheVariants as rules
-use Rattle.bl_mps.proofs.LineParts.{LineParts, parts_of, pushed, parts-push, heading_added, pushed_heading, data_added}
+use Rattle.bl_mps.proofs.LineParts.{LineParts, parts_of, parts-push, heading_added, pushed_heading, data_added}
 use Rattle.bl_mps.proofs.LineParts.{pushed_data}
 use Rattle.bl_mps_laws.proofs.Tokens.{Token, Begin, Fields, IsToken, IsNotEnd, word_of, line_of, not_end, word_skipped}
 use Rattle.bl_mps_laws.proofs.Tokens.{word_begins, word_fields, word_named, data_fields, data_skipped, data_begins}
@@ -144,23 +139,27 @@ EachFine fault before (line ∷ lines) =
 pub fine_on : (fault : List (List Bytes) → List Bytes → Option MpsRule) (before xs ys : List (List Bytes))
     → EachFine fault before xs → EachFine fault (before ++ xs) ys → EachFine fault before (xs ++ ys)
 fine_on fault before [] ys h k = subst (λ (b : List (List Bytes)). EachFine fault b ys) (append-nil before) k
-fine_on fault before (x ∷ xs) ys h k =
-    (h.0, h.1, fine_on fault (before ++ x ∷ []) xs ys h.2
-    (subst (λ (b : List (List Bytes)). EachFine fault b ys) (sym (append_assoc before (x ∷ []) xs)) k))
+fine_on fault before (x ∷ xs) ys h k = (
+  h.0,
+  h.1,
+  fine_on fault (before ++ x ∷ []) xs ys h.2
+      (subst (λ (b : List (List Bytes)). EachFine fault b ys) (sym (append_assoc before (x ∷ []) xs)) k),
+)
 
 -- The parts by what stands under one section, which each data line grows.
 module _ (at : List (List Bytes) → LineParts) (fault : List (List Bytes) → List Bytes → Option MpsRule)
     (faults : (lines : List (List Bytes)) (line : List Bytes) → token_fault (at lines) (Fields line) ≡ fault lines line)
-    (grows : (lines : List (List Bytes)) (line : List Bytes) → behind (at lines) (Fields line) ≡ at (lines ++ line ∷ []))
-    where
-  pub data_lead : (before lines : List (List Bytes)) → EachFine fault before lines
-      → Leads (at before) (map Fields lines) (at (before ++ lines))
-  data_lead before [] h = ap at (sym (append-nil before))
-  data_lead before (line ∷ lines) h = (
-    h.0,
-    tt,
-    faults before line ∙ h.1,
-    subst (λ (p : LineParts). Leads p (map Fields lines) (at (before ++ line ∷ lines))) (sym (grows before line))
-        (subst (λ (ls : List (List Bytes)). Leads (at (before ++ line ∷ [])) (map Fields lines) (at ls))
-        (append_assoc before (line ∷ []) lines) (data_lead (before ++ line ∷ []) lines h.2)),
-  )
+    (grows : (lines : List (List Bytes)) (line : List Bytes)
+    → behind (at lines) (Fields line) ≡ at (lines ++ line ∷ []))
+  where
+    pub data_lead : (before lines : List (List Bytes)) → EachFine fault before lines
+        → Leads (at before) (map Fields lines) (at (before ++ lines))
+    data_lead before [] h = ap at (sym (append-nil before))
+    data_lead before (line ∷ lines) h = (
+      h.0,
+      tt,
+      faults before line ∙ h.1,
+      subst (λ (p : LineParts). Leads p (map Fields lines) (at (before ++ line ∷ lines))) (sym (grows before line))
+          (subst (λ (ls : List (List Bytes)). Leads (at (before ++ line ∷ [])) (map Fields lines) (at ls))
+          (append_assoc before (line ∷ []) lines) (data_lead (before ++ line ∷ []) lines h.2)),
+    )

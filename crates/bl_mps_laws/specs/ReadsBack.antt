@@ -10,10 +10,10 @@ use Rattle.bl_mps_read.specs.declared.error.MpsError.TheVariants.{Memory}
 use Rattle.bl_mps_write.specs.Canonical.{mps_text}
 use Rattle.bl_mps.specs.Read.{IsRead}
 
--- The canonical text of what some text says, with a small enough default upper bound, has at most as many bytes as a
--- text may have; else it is refused for its length.
+-- What a text says with a default upper bound that is small enough, its canonical text says too. It names a column once
+-- for each coefficient and bound, so it can be longer than that text, and longer than a text may be.
 pub record ReadsBack : Type 0 where
-  -- It says the same with every default upper bound,
+  -- Within that limit it says the same, with every default upper bound,
   pub said : (default : ℤ) (text : List ℕ) (mps : RawMps) → unsigned_abs default ≤ MAX_NUMBER → Reads default text mps
       → length (mps_text mps) ≤ MAX_TEXT_BYTES → (other : ℤ) → Reads other (mps_text mps) mps
   -- so it is read as the same model, unless memory runs out.
@@ -21,5 +21,6 @@ pub record ReadsBack : Type 0 where
       → IsRead default text (Ok mps) → length (mps_text mps) ≤ MAX_TEXT_BYTES → (other : ℤ)
       → (result : Result RawMps MpsError) → IsRead other (mps_text mps) result
       → (result ≡ Ok mps) ⊎ (result ≡ Err Memory)
+  -- Above it, it is refused for its length.
   pub long : (mps : RawMps) → MAX_TEXT_BYTES < length (mps_text mps) → (other : ℤ)
       → first_fault other (mps_text mps) ≡ Some (at_line 0 rules.TooLong)
