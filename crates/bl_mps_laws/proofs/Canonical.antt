@@ -1,6 +1,6 @@
 -- The canonical text of a model that a text can say, says it.
 use Rattle.std.proofs.Common.{◌≡◌, ℕ, ◌+◌, ◌≤◌, Bool, true, false, cond, List, [], ◌∷◌, ◌++◌, map, length, Option}
-use Rattle.std.proofs.Common.{Some, None, ℤ, is_none, refl, sym, ap, subst, ◌∙◌, codes}
+use Rattle.std.proofs.Common.{Some, None, ℤ, is_none, refl, sym, ap, subst, ◌∙◌, codes, append_assoc}
 use Rattle.std.specs.Option.{option_map}
 use Rattle.std.specs.List.{AllByRecursion, AllZip, flat_map, list_any}
 use Rattle.std.proofs.lemmas.Bool.{le-ltb}
@@ -36,7 +36,7 @@ use Rattle.bl_mps_laws.proofs.Sayable.{IsSayable, IsSayableColumn, names_of, col
 use Rattle.bl_mps_laws.proofs.Tables.{given, texts}
 use Rattle.bl_mps_laws.proofs.Tokens.{Token, Begin, IsToken, line_of, word_of, lines_of-tokens}
 use Rattle.bl_mps_laws.proofs.Tokens.{lines_read-tokens}
-use Rattle.bl_mps_laws.proofs.Walks.{token_fault, line_fault-same, Walked, walked, leads_tokens, leads_not_end}
+use Rattle.bl_mps_laws.proofs.Walks.{Leads, token_fault, line_fault-same, Walked, walked, leads_tokens, leads_not_end}
 
 token_push : (ts : List Token) (t : Token) → AllByRecursion IsToken ts → IsToken t
     → AllByRecursion IsToken (ts ++ t ∷ [])
@@ -53,10 +53,10 @@ end_may : (maximise : Bool)
 end_may true = refl
 end_may false = refl
 
-end_line : (lines : List Bytes) → line_fault lines (word_of End) ≡ None
-    → lines_fault lines (word_of End ∷ []) ≡ None
+end_line : (lines more : List Bytes) → line_fault lines (word_of End) ≡ None
+    → lines_fault lines (word_of End ∷ more) ≡ None
 unfolding lines_fault
-end_line lines e = rw e refl
+end_line lines more e = rw e refl
 
 -- the faults of whole columns, by what stands under each section
 abbrev fault_at : ℤ → LineParts → Option MpsFault
@@ -80,29 +80,38 @@ module _ (mps : RawMps) (h : IsSayable mps) where
   tokens_good : AllByRecursion IsToken (tokens_of mps)
   tokens_good = leads_tokens (parts_of []) (last mps) (tokens_of mps) (tokens_lead mps h)
 
-  lines_are : lines_of (mps_text mps) ≡ lines ++ word_of End ∷ []
-  lines_are =
-      ap lines_of (canonical_text mps)
-      ∙ lines_of-tokens (tokens_of mps ++ Begin End ∷ []) (token_push (tokens_of mps) (Begin End) tokens_good tt)
-      ∙ map_push line_of (tokens_of mps) (Begin End)
-
-  read_are : lines_read (lines_of (mps_text mps)) ≡ lines
-  read_are =
-      ap lines_read lines_are
-      ∙ lines_read-tokens (tokens_of mps) tokens_good
-      (leads_not_end (parts_of []) (last mps) (tokens_of mps) (tokens_lead mps h))
-
-  walk : Walked [] (tokens_of mps) (last mps) (word_of End ∷ [])
-  walk = walked [] (tokens_of mps) (last mps) (word_of End ∷ []) (tokens_lead mps h)
+  parts_lead : Leads (parts_of []) (tokens_of mps) (last mps)
+  parts_lead = tokens_lead mps h
 
   parts_are : parts_of lines ≡ last mps
-  parts_are = walk.parts
+  parts_are = (walked [] (tokens_of mps) (last mps) [] parts_lead).parts
 
-  no_line : lines_fault [] (lines_of (mps_text mps)) ≡ None
-  no_line =
-      ap (lines_fault []) lines_are ∙ walk.fault
-      ∙ end_line lines (line_fault-same lines (Begin End) tt
-      ∙ ap (λ (p : LineParts). token_fault p (Begin End)) parts_are ∙ end_may mps.maximise)
+  end_fine : line_fault lines (word_of End) ≡ None
+  end_fine =
+      line_fault-same lines (Begin End) tt ∙ ap (λ (p : LineParts). token_fault p (Begin End)) parts_are
+      ∙ end_may mps.maximise
+
+  -- ---- the text with something behind it
+
+  pub lines_are : (behind : List ℕ) → lines_of (mps_text mps ++ behind) ≡ lines ++ word_of End ∷ lines_of behind
+  lines_are behind =
+      ap (λ (t : List ℕ). lines_of (t ++ behind)) (canonical_text mps)
+      ∙ lines_of-tokens (tokens_of mps ++ Begin End ∷ []) behind
+      (token_push (tokens_of mps) (Begin End) tokens_good tt)
+      ∙ ap (λ (ls : List Bytes). ls ++ lines_of behind) (map_push line_of (tokens_of mps) (Begin End))
+      ∙ append_assoc lines (word_of End ∷ []) (lines_of behind)
+
+  read_are : (behind : List ℕ) → lines_read (lines_of (mps_text mps ++ behind)) ≡ lines
+  read_are behind =
+      ap lines_read (lines_are behind)
+      ∙ lines_read-tokens (tokens_of mps) (lines_of behind) tokens_good
+      (leads_not_end (parts_of []) (last mps) (tokens_of mps) parts_lead)
+
+  no_line : (behind : List ℕ) → lines_fault [] (lines_of (mps_text mps ++ behind)) ≡ None
+  no_line behind =
+      ap (lines_fault []) (lines_are behind)
+      ∙ (walked [] (tokens_of mps) (last mps) (word_of End ∷ lines_of behind) parts_lead).fault
+      ∙ end_line lines (lines_of behind) end_fine
 
   -- ---- columns
 
@@ -213,15 +222,17 @@ module _ (mps : RawMps) (h : IsSayable mps) where
         ∙ ap (columns_fault other columns bounds 0) (columns_named mps h)
         ∙ no_column other columns bounds 0 mps.columns (wholes_fine mps.columns found)
 
-    faultless : length (mps_text mps) ≤ MAX_TEXT_BYTES → first_fault other (mps_text mps) ≡ None
+    faultless : (behind : List ℕ) → length (mps_text mps ++ behind) ≤ MAX_TEXT_BYTES
+        → first_fault other (mps_text mps ++ behind) ≡ None
     unfolding first_fault
-    faultless short =
-        rw (le-ltb MAX_TEXT_BYTES (length (mps_text mps)) short, no_line)
-        (ap (model_fault other) read_are ∙ no_whole)
+    faultless behind short =
+        rw (le-ltb MAX_TEXT_BYTES (length (mps_text mps ++ behind)) short, no_line behind)
+        (ap (model_fault other) (read_are behind) ∙ no_whole)
 
-    -- The canonical text says the model.
-    pub says_sayable : length (mps_text mps) ≤ MAX_TEXT_BYTES → Reads other (mps_text mps) mps
-    says_sayable short = record {
-      faultless = faultless short;
-      says = subst (λ (ls : List Bytes). Says other ls mps) (sym read_are) says;
+    -- The canonical text says the model, whatever stands behind it.
+    pub says_sayable : (behind : List ℕ) → length (mps_text mps ++ behind) ≤ MAX_TEXT_BYTES
+        → Reads other (mps_text mps ++ behind) mps
+    says_sayable behind short = record {
+      faultless = faultless behind short;
+      says = subst (λ (ls : List Bytes). Says other ls mps) (sym (read_are behind)) says;
     }

@@ -4,7 +4,7 @@ use Rattle.std.proofs.Common.{None, Result, Ok, Err, ℤ, is_none, nat_lt, refl,
 use Rattle.std.proofs.Common.{inl, inr, ◌⊎◌}
 use Rattle.std.specs.List.{AllByRecursion, flat_map}
 use Rattle.std.proofs.lemmas.Bool.{lt-ltb}
-use Rattle.std.proofs.lemmas.List.{length-map}
+use Rattle.std.proofs.lemmas.List.{append-nil, length-map}
 use Rattle.bl_limits.specs.declared.TheConstants.{MAX_TEXT_BYTES, MAX_TEXT_ROWS, MAX_COLUMNS}
 use Rattle.bl_raw.specs.Raw.{IsSmall}
 use Rattle.bl_raw.specs.declared.raw.RawMps.{RawMps}
@@ -148,11 +148,20 @@ same_result other text mps (Ok x) r is =
 same_result other text mps (Err (Fault fault)) r is = absurd ((has_one_reading other text).never_both mps fault r is)
 same_result other text mps (Err Memory) r is = inr refl
 
+-- the canonical text by itself
+alone : (mps : RawMps) → IsSayable mps → length (mps_text mps) ≤ MAX_TEXT_BYTES → (other : ℤ)
+    → Reads other (mps_text mps) mps
+alone mps h short other =
+    let same = append-nil (mps_text mps) in
+    subst (λ (t : List ℕ). Reads other t mps) same
+    (says_sayable mps h other [] (subst (λ (t : List ℕ). length t ≤ MAX_TEXT_BYTES) (sym same) short))
+
 pub reads_back : ReadsBack
 reads_back = record {
-  said = λ default text mps small reads short other. says_sayable mps (said_sayable default small text mps reads) other
-      short;
+  said = λ default text mps small reads short other. alone mps (said_sayable default small text mps reads) short other;
+  followed = λ default text mps small reads behind short other. says_sayable mps
+      (said_sayable default small text mps reads) other behind short;
   read = λ default text mps small reads short other result is. same_result other (mps_text mps) mps result
-      (says_sayable mps (said_sayable default small text mps reads) other short) is;
+      (alone mps (said_sayable default small text mps reads) short other) is;
   long = λ mps long other. long_fault other (mps_text mps) long;
 }

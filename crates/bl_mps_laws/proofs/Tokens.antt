@@ -53,7 +53,7 @@ fields_of-spaced (f ∷ fs) h =
     are_runs.parted [] (f ++ spaced fs) 32 refl
     ∙ ap (λ (gs : List Bytes). gs ++ fields_of (f ++ spaced fs)) are_runs.none ∙ fields_of-behind f fs h.0 h.1
 
-line-append : (xs ys : Bytes) → IsLine xs → IsLine ys → IsLine (xs ++ ys)
+pub line-append : (xs ys : Bytes) → IsLine xs → IsLine ys → IsLine (xs ++ ys)
 line-append [] ys h k = k
 line-append (x ∷ xs) ys h k = (h.0, line-append xs ys h.1 k)
 
@@ -96,7 +96,7 @@ text_of-ended : (token : Token) → text_of token ≡ ended (line_of token)
 text_of-ended (Begin section) = refl
 text_of-ended (Fields fs) = sym (spaced-ended fs)
 
-texts-ended : (tokens : List Token) → flat_map text_of tokens ≡ flat_map ended (map line_of tokens)
+pub texts-ended : (tokens : List Token) → flat_map text_of tokens ≡ flat_map ended (map line_of tokens)
 texts-ended [] = refl
 texts-ended (t ∷ ts) = rw (text_of-ended t, texts-ended ts) refl
 
@@ -115,17 +115,16 @@ line-token (Begin section) h = line-word section
 line-token (Fields []) h = absurd h
 line-token (Fields (f ∷ fs)) h = line-spaced (f ∷ fs) h
 
-lines-tokens : (tokens : List Token) → AllByRecursion IsToken tokens → AllByRecursion IsLine (map line_of tokens)
+pub lines-tokens : (tokens : List Token) → AllByRecursion IsToken tokens → AllByRecursion IsLine (map line_of tokens)
 lines-tokens [] h = tt
 lines-tokens (t ∷ ts) h = (line-token t h.0, lines-tokens ts h.1)
 
--- the lines of a text of tokens
-pub lines_of-tokens : (tokens : List Token) → AllByRecursion IsToken tokens
-    → lines_of (flat_map text_of tokens) ≡ map line_of tokens
-lines_of-tokens tokens h =
-    ap lines_of (texts-ended tokens ∙ sym (append-nil (flat_map ended (map line_of tokens))))
-    ∙ has_its_lines.ended (map line_of tokens) [] (lines-tokens tokens h)
-    ∙ append-nil (map line_of tokens)
+-- the lines of a text that begins with tokens
+pub lines_of-tokens : (tokens : List Token) (rest : Bytes) → AllByRecursion IsToken tokens
+    → lines_of (flat_map text_of tokens ++ rest) ≡ map line_of tokens ++ lines_of rest
+lines_of-tokens tokens rest h =
+    ap (λ (t : Bytes). lines_of (t ++ rest)) (texts-ended tokens)
+    ∙ has_its_lines.ended (map line_of tokens) rest (lines-tokens tokens h)
 
 -- ---- what kind of line each is
 
@@ -198,9 +197,9 @@ lines_read-first line lines more e h =
     let one : 1 + prefix_len (λ l. not (is_end l)) lines ≡ suc (prefix_len (λ l. not (is_end l)) lines) = omega arith in
     rw e (ap (λ (n : ℕ). take n (line ∷ lines)) one ∙ ap (λ (ls : List Bytes). line ∷ ls) h)
 
-pub lines_read-tokens : (tokens : List Token) → AllByRecursion IsToken tokens → AllByRecursion IsNotEnd tokens
-    → lines_read (map line_of tokens ++ word_of End ∷ []) ≡ map line_of tokens
-lines_read-tokens [] h n = refl
-lines_read-tokens (t ∷ ts) h n =
-    lines_read-first (line_of t) (map line_of ts ++ word_of End ∷ []) (map line_of ts) (not_end t h.0 n.0)
-    (lines_read-tokens ts h.1 n.1)
+pub lines_read-tokens : (tokens : List Token) (more : List Bytes) → AllByRecursion IsToken tokens
+    → AllByRecursion IsNotEnd tokens → lines_read (map line_of tokens ++ word_of End ∷ more) ≡ map line_of tokens
+lines_read-tokens [] more h n = refl
+lines_read-tokens (t ∷ ts) more h n =
+    lines_read-first (line_of t) (map line_of ts ++ word_of End ∷ more) (map line_of ts) (not_end t h.0 n.0)
+    (lines_read-tokens ts more h.1 n.1)

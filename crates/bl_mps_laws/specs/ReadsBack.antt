@@ -1,5 +1,5 @@
 -- Trusted. A canonical MPS text reads back.
-use Rattle.std.specs.Prelude.{◌≡◌, ◌⊎◌, ℕ, ◌<◌, ◌≤◌, ℤ, unsigned_abs, List, length, Some, Result, Ok, Err}
+use Rattle.std.specs.Prelude.{◌≡◌, ◌⊎◌, ℕ, ◌<◌, ◌≤◌, ℤ, unsigned_abs, List, ◌++◌, length, Some, Result, Ok, Err}
 use Rattle.bl_limits.specs.declared.TheConstants.{MAX_NUMBER, MAX_TEXT_BYTES}
 use Rattle.bl_raw.specs.declared.raw.RawMps.{RawMps}
 use Rattle.bl_mps_terms.specs.declared.fault.MpsRule.TheVariants as rules
@@ -16,6 +16,10 @@ pub record ReadsBack : Type 0 where
   -- Within that limit it says the same, with every default upper bound,
   pub said : (default : ℤ) (text : List ℕ) (mps : RawMps) → unsigned_abs default ≤ MAX_NUMBER → Reads default text mps
       → length (mps_text mps) ≤ MAX_TEXT_BYTES → (other : ℤ) → Reads other (mps_text mps) mps
+  -- also where something stands behind it;
+  pub followed : (default : ℤ) (text : List ℕ) (mps : RawMps) → unsigned_abs default ≤ MAX_NUMBER
+      → Reads default text mps → (behind : List ℕ) → length (mps_text mps ++ behind) ≤ MAX_TEXT_BYTES → (other : ℤ)
+      → Reads other (mps_text mps ++ behind) mps
   -- so it is read as the same model, unless memory runs out.
   pub read : (default : ℤ) (text : List ℕ) (mps : RawMps) → unsigned_abs default ≤ MAX_NUMBER
       → IsRead default text (Ok mps) → length (mps_text mps) ≤ MAX_TEXT_BYTES → (other : ℤ)
