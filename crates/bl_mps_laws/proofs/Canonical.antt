@@ -36,7 +36,7 @@ use Rattle.bl_mps_laws.proofs.Sayable.{IsSayable, IsSayableColumn, names_of, col
 use Rattle.bl_mps_laws.proofs.Tables.{given, texts}
 use Rattle.bl_mps_laws.proofs.Tokens.{Token, Begin, IsToken, line_of, word_of, lines_of-tokens}
 use Rattle.bl_mps_laws.proofs.Tokens.{lines_read-tokens}
-use Rattle.bl_mps_laws.proofs.Walks.{Leads, token_fault, line_fault-same, Walked, walked, leads_tokens, leads_not_end}
+use Rattle.bl_mps_laws.proofs.Walks.{Leads, token_fault, line_fault-same, walked, leads_tokens, leads_not_end}
 
 token_push : (ts : List Token) (t : Token) → AllByRecursion IsToken ts → IsToken t
     → AllByRecursion IsToken (ts ++ t ∷ [])

@@ -1,6 +1,6 @@
 -- The lines of a canonical auxiliary text, and its size.
-use Rattle.std.proofs.Common.{◌≡◌, ◌≢◌, ℕ, zero, suc, ◌+◌, ◌*◌, ◌^◌, ◌<◌, ◌≤◌, Bool, true, false, eqb, List, [], ◌∷◌}
-use Rattle.std.proofs.Common.{◌++◌, length, get_or, map, ℤ, pos, unsigned_abs, refl, sym, ap, subst, ◌∙◌, arith, codes}
+use Rattle.std.proofs.Common.{◌≡◌, ℕ, suc, ◌+◌, ◌*◌, ◌<◌, ◌≤◌, false, eqb, List, [], ◌∷◌}
+use Rattle.std.proofs.Common.{◌++◌, length, get_or, map, ℤ, pos, negsuc, refl, sym, ap, ◌∙◌, arith, codes}
 use Rattle.std.proofs.Common.{append_assoc, length-append, inl, inr}
 use Rattle.std.specs.Fmt.{signed_decimal}
 use Rattle.std.specs.List.{flat_map, All, AllByRecursion, IsDistinct}
@@ -67,12 +67,9 @@ pub aux_text_lines : (aux : RawAux) → aux_text aux ≡ flat_map ended (aux_lin
 unfolding aux_text
 aux_text_lines aux =
     rw (
-      key_text (codes "N") (pos (length aux.columns)),
-      key_text (codes "M") (pos (length aux.rows)),
       keys_text (codes "LC") (map pos aux.columns),
       keys_text (codes "LR") (map pos aux.rows),
       keys_text (codes "LO") aux.costs,
-      key_text (codes "OS") aux.sense,
     )
     (joined (key_line (codes "N") (pos (length aux.columns))) (key_line (codes "M") (pos (length aux.rows)))
     (key_lines (codes "LC") (map pos aux.columns)) (key_lines (codes "LR") (map pos aux.rows))
@@ -172,19 +169,29 @@ aux_key_lines aux h =
 -- ---- the size
 
 number_length : (z : ℤ) → IsSmall z → length (signed_decimal z) ≤ 9
-number_length z small = length_signed_le 8 z (omega (arith, small)) (omega (arith, small))
+number_length (pos n) small = length_signed_le 8 (pos n) (omega (arith, small)) (omega (arith, small))
+number_length (negsuc n) small = length_signed_le 8 (negsuc n) (omega (arith, small)) (omega (arith, small))
 
 line_length : (key : Bytes) (z : ℤ) → length key ≤ 2 → IsSmall z → length (number_line key z) ≤ 13
 line_length key z few small =
-    omega (arith, few, number_length z small, length-append key (32 ∷ (signed_decimal z ++ 10 ∷ [])),
-    length-append (signed_decimal z) (10 ∷ []))
+    omega (
+      arith,
+      few,
+      number_length z small,
+      length-append key (32 ∷ (signed_decimal z ++ 10 ∷ [])),
+      length-append (signed_decimal z) (10 ∷ []),
+    )
 
 lines_length : (key : Bytes) (numbers : List ℤ) → length key ≤ 2 → AllByRecursion IsSmall numbers
     → length (number_lines key numbers) ≤ 13 * length numbers
 lines_length key [] few h = omega arith
 lines_length key (z ∷ numbers) few h =
-    omega (arith, line_length key z few h.0, lines_length key numbers few h.1,
-    length-append (number_line key z) (number_lines key numbers))
+    omega (
+      arith,
+      line_length key z few h.0,
+      lines_length key numbers few h.1,
+      length-append (number_line key z) (number_lines key numbers),
+    )
 
 six_lengths : (a b x y z c : Bytes)
     → length (a ++ b ++ x ++ y ++ z ++ c) ≡ length a + length b + length x + length y + length z + length c
@@ -207,6 +214,15 @@ aux_text_short aux h =
       six_lengths (number_line (codes "N") (pos (length aux.columns))) (number_line (codes "M") (pos (length aux.rows)))
           (number_lines (codes "LC") (map pos aux.columns)) (number_lines (codes "LR") (map pos aux.rows))
           (number_lines (codes "LO") aux.costs) (number_line (codes "OS") aux.sense),
-      n, m, s, lc, lr, lo, h.column_count, h.row_count, h.cost_count,
-      length-map aux.columns pos, length-map aux.rows pos,
+      n,
+      m,
+      s,
+      lc,
+      lr,
+      lo,
+      h.column_count,
+      h.row_count,
+      h.cost_count,
+      length-map aux.columns pos,
+      length-map aux.rows pos,
     )

@@ -1,6 +1,6 @@
 -- The parts of a text of MPS lines, ENDATA, lines with keys and a line of linking columns.
-use Rattle.std.proofs.Common.{◌≡◌, ℕ, ◌+◌, ◌<◌, ◌≤◌, Bool, true, false, cond, List, [], ◌∷◌, ◌++◌, map, length, refl}
-use Rattle.std.proofs.Common.{sym, ap, ◌∙◌, arith, codes, pos, append_assoc, unsigned_abs}
+use Rattle.std.proofs.Common.{◌≡◌, ℕ, ◌≤◌, Bool, true, false, cond, List, [], ◌∷◌, ◌++◌, map, length, refl}
+use Rattle.std.proofs.Common.{sym, ap, ◌∙◌, arith, codes, pos, append_assoc}
 use Rattle.std.specs.Fmt.{decimal}
 use Rattle.std.specs.List.{flat_map, AllByRecursion}
 use Rattle.std.proofs.lemmas.List.{append-nil}
@@ -14,7 +14,6 @@ use Rattle.bl_model.specs.Build.{program_of, rows_of}
 use Rattle.bl_run.specs.Report.{links_line}
 use Rattle.bl_mps_terms.specs.Words.{Bytes}
 use Rattle.bl_mps_terms.specs.declared.words.Section.TheVariants.{End}
-use Rattle.bl_mps_terms.specs.Parts.{is_end}
 use Rattle.bl_mps_laws.proofs.Decimals.{number_word}
 use Rattle.bl_mps_laws.proofs.Tokens.{Token, IsToken, IsNotEnd, line_of, word_of, not_end, line-append}
 use Rattle.bl_show_laws.specs.ShowsBack.{to_end, behind_end, is_links, before_links, from_links}
@@ -64,9 +63,11 @@ links_ended links = sym (append_assoc (codes "links") (flat_map (λ link. codes 
 links_is_line : (links : List ℕ) → AllByRecursion (λ link. link ≤ MAX_WHOLE) links
     → IsLine (flat_map (λ link. codes " " ++ decimal link) links)
 links_is_line [] h = tt
-links_is_line (link ∷ links) h =
-    (refl, line-append (decimal link) (flat_map (λ l. codes " " ++ decimal l) links) (number_word (pos link) h.0).line
-    (links_is_line links h.1))
+links_is_line (link ∷ links) h = (
+  refl,
+  line-append (decimal link) (flat_map (λ l. codes " " ++ decimal l) links) (number_word (pos link) h.0).line
+      (links_is_line links h.1),
+)
 
 -- It is one line, and the last.
 pub record IsLinksLine (links : List ℕ) : Type 0 where

@@ -1,9 +1,9 @@
 -- What `show` prints, says the model and the follower again.
-use Rattle.std.proofs.Common.{◌≡◌, ℕ, ◌≤◌, ℤ, List, [], ◌∷◌, ◌++◌, map, length, unsigned_abs, refl, sym, ap, subst, ◌∙◌}
-use Rattle.std.proofs.Common.{arith, codes}
+use Rattle.std.proofs.Common.{◌≡◌, ℕ, ◌≤◌, ℤ, List, [], ◌∷◌, ◌++◌, map, length, refl, sym, ap, subst, ◌∙◌}
+use Rattle.std.proofs.Common.{arith}
 use Rattle.std.specs.List.{flat_map, AllByRecursion}
 use Rattle.std.proofs.lemmas.List.{append-nil, map_push}
-use Rattle.bl_limits.specs.declared.TheConstants.{MAX_NUMBER, MAX_TEXT_BYTES, MAX_WHOLE}
+use Rattle.bl_limits.specs.declared.TheConstants.{MAX_TEXT_BYTES}
 use Rattle.bl_raw.specs.declared.raw.RawMps.{RawMps}
 use Rattle.bl_raw.specs.declared.raw.RawAux.{RawAux}
 use Rattle.bl_text.specs.Lines.{lines_of, ended, IsLine}
@@ -24,7 +24,7 @@ use Rattle.bl_mps_laws.proofs.CanonicalLines.{last, tokens_lead}
 use Rattle.bl_mps_laws.proofs.CanonicalText.{tokens_of, canonical_text}
 use Rattle.bl_mps_laws.proofs.Said.{said_sayable}
 use Rattle.bl_mps_laws.proofs.Sayable.{IsSayable}
-use Rattle.bl_mps_laws.proofs.Tokens.{Token, Begin, IsToken, IsNotEnd, text_of, line_of, word_of, texts-ended}
+use Rattle.bl_mps_laws.proofs.Tokens.{Token, Begin, IsToken, IsNotEnd, line_of, word_of, texts-ended}
 use Rattle.bl_mps_laws.proofs.Walks.{leads_tokens, leads_not_end}
 use Rattle.bl_show_laws.specs.ShowsBack.{to_end, behind_end, before_links, from_links, mps_part, aux_part, links_part}
 use Rattle.bl_show_laws.specs.ShowsBack.{SaysAgain, ShowsBack}
@@ -123,5 +123,5 @@ shows_back default text follower mps aux small reads says =
     let rows = h.row_count in
     let short = short_follower (length mps.columns) (length mps.rows) aux columns rows fits in
     again mps aux h short
-    (reads_back (sizes_of (length mps.columns) (length mps.rows)) aux (omega (arith, columns)) (omega (arith, rows)) fits
-    (aux_text_short aux short))
+    (reads_back (sizes_of (length mps.columns) (length mps.rows)) aux (omega (arith, columns)) (omega (arith, rows))
+    fits (aux_text_short aux short))
