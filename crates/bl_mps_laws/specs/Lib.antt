@@ -1,0 +1,2 @@
+-- that canonical texts read back (trusted)
+pub mod ReadsBack

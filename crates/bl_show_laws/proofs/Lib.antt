@@ -1,0 +1,3 @@
+pub mod AuxLines
+pub mod Parts
+pub mod Shown

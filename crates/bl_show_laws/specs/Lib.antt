@@ -1,0 +1,2 @@
+-- that what `show` prints reads back (trusted)
+pub mod ShowsBack
