@@ -8,7 +8,7 @@ ghost use Rattle.bl_tableau.specs.Runs.{current};
 ghost use Rattle.bl_relax.specs.Relaxed.{IsRelaxed};
 ghost use Rattle.bl_relax.specs.Runs.{IsRunOfSteps, EndsPastLimit};
 
-use crate::point::whole_at;
+use bl_point::whole_at;
 use crate::relaxed::Relaxed;
 use crate::rounding::{Direction, rounded_point};
 use bl_bound::{Problem, Proof, holds};

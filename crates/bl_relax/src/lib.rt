@@ -7,7 +7,6 @@
 
 mod choice;
 mod finish;
-mod point;
 mod relaxation;
 mod relaxed;
 mod rounding;
@@ -16,6 +15,6 @@ mod tests;
 
 pub use bl_licence::{Why, why_holds};
 pub use finish::closed_by;
-pub use point::whole_at;
+pub use bl_point::whole_at;
 pub use relaxation::attempt;
 pub use relaxed::Relaxed;

@@ -1,10 +1,10 @@
 -- Points of a box are small.
-use Rattle.std.proofs.Common.{◌≡◌, ℕ, ◌*◌, ◌^◌, ◌<◌, ◌≤◌, List, length, ℤ, arith}
+use Rattle.std.proofs.Common.{◌≡◌, ℕ, ◌^◌, ◌≤◌, List, length, ℤ, arith}
 use Rattle.std.specs.Int.{w128}
 use Rattle.std.proofs.lemmas.Int.{ints}
 use Rattle.bl_limits.specs.declared.TheConstants.{MAX_NUMBER}
 use Rattle.bl_whole.specs.Sums.{component}
-use Rattle.bl_whole.specs.Within.{IsWithin, AreWithin, PartialDotsFit}
+use Rattle.bl_whole.specs.Within.{AreWithin, PartialDotsFit}
 use Rattle.bl_whole.proofs.WithinLemmas.{within_entry, within_high, within_low, within_from_bounds, dots_fit}
 use Rattle.bl_terms.specs.Points.{InArea}
 use Rattle.bl_terms.specs.Bounds.{Problem, Fits}

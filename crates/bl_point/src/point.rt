@@ -1,8 +1,6 @@
-//! The test of a whole point.
-ghost use Rattle.std.specs.Prelude.{◌≡◌, ◌↔◌, ℕ, ◌<◌, ◌≤ℤ◌, ◌<ℤ◌, length, IsTrue, MatchOption};
-ghost use Rattle.bl_limits.specs.declared.TheConstants.{MAX_NUMBER};
+//! The tests of a whole point, exact in 128 bits.
+ghost use Rattle.std.specs.Prelude.{◌≡◌, ◌↔◌, ℕ, ◌<◌, length, IsTrue};
 ghost use Rattle.bl_whole.specs.Sums.{dot};
-ghost use Rattle.bl_whole.specs.Within.{AreWithin};
 ghost use Rattle.bl_terms.specs.Points.{InArea, Meets};
 ghost use Rattle.bl_terms.specs.Bounds.{Fits, linear_at};
 ghost use Rattle.bl_bound.specs.Plain.{CostsLess, IsBetterPoint};
@@ -44,6 +42,15 @@ fn meets_rows(problem: &Problem<'_>, point: &[i64]) -> bool
     true
 }
 
+/// The cost of a point of the box.
+pub fn cost_at(problem: &Problem<'_>, point: &[i64]) -> i128
+    requires problem_fits { Fits problem.now }
+    requires inside { InArea problem.now.area point.now }
+    ensures { result ≡ dot problem.now.cost point.now }
+{
+    dot_product(problem.cost(), point)
+}
+
 /// Whether a point of the box costs less than the cutoff.
 fn costs_less(problem: &Problem<'_>, cutoff: Option<i64>, point: &[i64]) -> bool
     requires problem_fits { Fits problem.now }
@@ -51,10 +58,7 @@ fn costs_less(problem: &Problem<'_>, cutoff: Option<i64>, point: &[i64]) -> bool
     ensures { IsTrue result ↔ CostsLess cutoff (dot problem.now.cost point.now) }
 {
     match cutoff {
-        Some(cutoff) => {
-            let value = dot_product(problem.cost(), point);
-            value < i128::from(cutoff)
-        }
+        Some(cutoff) => cost_at(problem, point) < i128::from(cutoff),
         None => true,
     }
 }
