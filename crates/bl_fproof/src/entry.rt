@@ -119,9 +119,13 @@ fn failing_step(
             response,
             value,
             proof,
-        } => failing_step_of_response(alloc, &rows, response.as_slice(), *value, proof),
+        } => {
+            let step = failing_step_of_response(alloc, &rows, response.as_slice(), *value, proof)?;
+            Ok(step)
+        }
         Answered::NoResponse { proof } => {
-            first_failing_step(alloc, &rows, None, proof.steps.as_slice())
+            let step = first_failing_step(alloc, &rows, None, proof.steps.as_slice())?;
+            Ok(step)
         }
     }
 }
