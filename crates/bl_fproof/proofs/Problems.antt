@@ -33,9 +33,10 @@ part_within q a f is within k b =
     let most = within.most k (omega arith) in
     let order = is.ordered k b in
     let low = within_low (within_entry f.lower_bounds k) in
-    let high = within_high (within_entry f.upper_bounds k) in
-    (within_from_bounds MAX_NUMBER (component a.lo k) (omega (arith, ints)) (omega (arith, ints)),
-     within_from_bounds MAX_NUMBER (component a.hi k) (omega (arith, ints)) (omega (arith, ints)))
+    let high = within_high (within_entry f.upper_bounds k) in (
+      within_from_bounds MAX_NUMBER (component a.lo k) (omega (arith, ints)) (omega (arith, ints)),
+      within_from_bounds MAX_NUMBER (component a.hi k) (omega (arith, ints)) (omega (arith, ints)),
+    )
 
 pub over_fits : (q : Problem) (a : Area) → Fits q → IsArea a → IsWithinArea a q.area → Fits (over q a)
 over_fits q a f is within =
@@ -178,8 +179,8 @@ pub whole_fits : (p : Program) (l : List ℤ) → IsModel p → IsLink p l → F
 whole_fits p l m is =
     let link = link_within p l m is in
     let small = rows_small p l (length p.follower) p.rows (λ i b.
-        row_small p l (row_at p.rows i) (record { each = λ k _. m.limits.coefs i k b }) (m.limits.rhs i b) link
-        (links_few p m)) in
+    row_small p l (row_at p.rows i) (record { each = λ k _. m.limits.coefs i k b }) (m.limits.rhs i b) link
+    (links_few p m)) in
     let size = length-map p.follower (λ k. component p.lo k) in
     record {
       shape = record {

@@ -43,7 +43,7 @@ point_from_response : (p : Program) (l y : List ℤ) (v : ℤ) → IsModel p →
     → IsPointOfCost (whole_problem p l) y v
 point_from_response p l y v m h = (
   (follower_points p l y (follower_box p) m.sound (part_of_itself (follower_box p))).1
-  (response_inside p l y h.response, h.response),
+      (response_inside p l y h.response, h.response),
   h.cost,
 )
 

@@ -29,9 +29,10 @@ unfolding split_once
 half_is_part q a j v part can =
     let tree : IsTree {S = Unit {0}} {L = ℕ} (split_once j v) a = ((can, tt), (tt, (tt, tt))) in
     let low = leaves_are_parts {S = Unit {0}} {L = ℕ} (split_once j v) a 0 tree part.area (omega arith) in
-    let high = leaves_are_parts {S = Unit {0}} {L = ℕ} (split_once j v) a 1 tree part.area (omega arith) in
-    (record { fits = part.fits; area = low.0; within = part_of_part low.1 part.within },
-     record { fits = part.fits; area = high.0; within = part_of_part high.1 part.within })
+    let high = leaves_are_parts {S = Unit {0}} {L = ℕ} (split_once j v) a 1 tree part.area (omega arith) in (
+      record { fits = part.fits; area = low.0; within = part_of_part low.1 part.within },
+      record { fits = part.fits; area = high.0; within = part_of_part high.1 part.within },
+    )
 
 pub low_is_part : (q : Problem) (a : Area) (j : ℕ) (v : ℤ) → IsPart q a → CanSplit a j v → IsPart q (low_half a j v)
 low_is_part q a j v part can = (half_is_part q a j v part can).0
@@ -120,8 +121,10 @@ step_split q u j v a low high rest all h =
 pub step_stuck : (q : Problem) (u : Option ℤ) (j : ℕ) (v : ℤ) (a : Area) (rest : List Area) → ¬ CanSplit a j v
     → IsStepTaken q u (Split j v tt) (rest ++ a ∷ []) rest false
 step_stuck q u j v a rest h = record {
-  verdict = (λ f. absurd (false≢true f),
-      λ stands. absurd (h (subst (λ s. Stands q u (Split j v tt) s) (top_first a rest) stands)));
+  verdict = (
+    λ f. absurd (false≢true f),
+    λ stands. absurd (h (subst (λ s. Stands q u (Split j v tt) s) (top_first a rest) stands)),
+  );
   after = λ f. absurd (false≢true f);
   parts = λ f. absurd (false≢true f);
 }
@@ -185,7 +188,7 @@ pub node_first : (steps : List Step) (i : ℕ) (x : Step) → i < length steps �
     → drop i (nodes_of steps) ≡ node_of x ∷ drop (i + 1) (nodes_of steps)
 node_first steps i x b e =
     let b' : i < length (nodes_of steps) = rw length-map b in
-    let same : get_or (nodes_of steps) i (node_of x) ≡ node_of x = 
+    let same : get_or (nodes_of steps) i (node_of x) ≡ node_of x =
     get_or-map node_of steps i x (node_of x) b ∙ ap node_of (sym e) in
     rw add-one
     (drop-cons (nodes_of steps) i (node_of x) b' ∙ ap (λ n. n ∷ drop (suc i) (nodes_of steps)) same)

@@ -29,5 +29,7 @@ pub enum Answered {
         proof: FollowerProof,
     },
     /// There is no response.
-    NoResponse { proof: FollowerProof },
+    NoResponse {
+        proof: FollowerProof,
+    },
 }

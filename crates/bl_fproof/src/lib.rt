@@ -6,6 +6,7 @@
 
 mod answered;
 mod entry;
+mod link;
 mod part;
 mod picked;
 mod response;
@@ -16,5 +17,6 @@ mod walk;
 
 pub use answered::{Answered, FollowerProof, Step};
 pub use entry::{AdmitFail, Entry, admit};
+pub use link::is_link;
 pub use rows::{FollowerRow, FollowerRows};
 pub use walk::first_failing_step;

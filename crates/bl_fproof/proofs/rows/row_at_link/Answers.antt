@@ -56,7 +56,7 @@ returns c =
     let right : FitsSigned w64 c.row.inside.right = search rules in
     let part : FitsSigned w64 c.dot_at.result = search rules in
     let coef = c.in_ok-coef.ensures ∙ ap (λ ks. values_at c.deref.result.now ks) c.follower.ensures.follower
-        ∙ ap (λ cs. values_at cs c.args.model.now.follower) (c.deref.ensures.value ∙ ap (λ r. r.coef) c.row.view_is) in
+    ∙ ap (λ cs. values_at cs c.args.model.now.follower) (c.deref.ensures.value ∙ ap (λ r. r.coef) c.row.view_is) in
     let fits = difference_fits c in
     let whole = overflow_sub-rhs c in
     let same = difference c in

@@ -25,5 +25,13 @@ invariant_of-result c =
     let model = c.follower-columns.ensures.model in
     let fits = whole_fits c.args.model.now c.args.link.now model c.requires in
     let columns = c.follower-columns.ensures.follower in
-    rw (c.in_ok-rows.ensures, c.in_ok-cost.ensures, c.in_ok-lo.ensures, c.in_ok-hi.ensures, columns,
-    c.follower_cost.ensures.follower_cost, c.lo.ensures.lo, c.hi.ensures.hi) fits
+    rw (
+      c.in_ok-rows.ensures,
+      c.in_ok-cost.ensures,
+      c.in_ok-lo.ensures,
+      c.in_ok-hi.ensures,
+      columns,
+      c.follower_cost.ensures.follower_cost,
+      c.lo.ensures.lo,
+      c.hi.ensures.hi,
+    ) fits
