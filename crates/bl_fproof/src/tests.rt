@@ -1,6 +1,6 @@
 //! Answers to the links of Moore and Bard's program (1990), worked out by hand.
 
-ghost use Rattle.std.specs.Prelude.{◌≡◌, ◌≤◌, [], length, vec_len, All, IfOk};
+ghost use Rattle.std.specs.Prelude.{pos, [], IfOk};
 ghost use Rattle.bl_raw.specs.Raw.{IsColumn, IsRow};
 
 use super::*;
@@ -28,7 +28,7 @@ fn row(alloc: Global, lo: Option<i64>, hi: Option<i64>) -> Result<RawRow, Fail>
 
 /// A column from 0 to 10 that stands in four rows.
 fn column(alloc: Global, cost: i64, entries: &[(u32, i64)]) -> Result<RawColumn, Fail>
-    requires { IsColumn 4 (record { name = []; lo = 0; hi = 10; cost = cost; entries = entries.now }) }
+    requires { IsColumn 4 (record { name = []; lo = pos 0; hi = pos 10; cost = cost; entries = entries.now }) }
     ensures { IfOk result (IsColumn 4) }
 {
     Ok(RawColumn {
