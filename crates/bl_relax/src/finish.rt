@@ -12,7 +12,7 @@ ghost use Rattle.bl_vertex.specs.Optima.{IsOpenOptimum};
 ghost use Rattle.bl_relax.specs.Relaxed.{IsRelaxed};
 ghost use Rattle.bl_relax.specs.Runs.{IsRunOfSteps, IsAtEnd, IsProofOf, IsClosed};
 
-use crate::point::{are_whole, whole_at, whole_point};
+use crate::point::{are_whole, whole_point};
 use crate::relaxed::Relaxed;
 use crate::repair::repair;
 use crate::rounding::{Direction, rounded_point};
@@ -22,6 +22,7 @@ use bl_licence::{
     Why, basic_values, common_denominator, cost_closes, cost_multipliers, first_closing_row,
     row_multipliers, whole_multiples,
 };
+use bl_point::whole_at;
 use bl_raw::Listed;
 use bl_tableau::Tableau;
 use std::alloc::{AllocError, Global};

@@ -16,6 +16,6 @@ mod rounding;
 mod tests;
 
 pub use bl_licence::{Why, why_holds};
-pub use point::whole_at;
+pub use bl_point::whole_at;
 pub use relaxation::relax;
 pub use relaxed::Relaxed;

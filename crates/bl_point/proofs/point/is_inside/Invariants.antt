@@ -1,6 +1,6 @@
 use Rattle.std.proofs.Common.{ℕ, ◌<◌, ◌≤ℤ◌}
 use Rattle.bl_whole.specs.Sums.{component}
-use Rattle.bl_relax.proofs.point.is_inside.Given as goal
+use Rattle.bl_point.proofs.point.is_inside.Given as goal
 
 abbrev pub invariant-loop-j : goal.invariant-loop-j
 invariant-loop-j l = record {

@@ -1,11 +1,11 @@
 use Rattle.std.proofs.Common.{sym, subst, arith}
 use Rattle.std.specs.Int.{w128}
 use Rattle.bl_whole.specs.Within.{PartialDotsFit}
-use Rattle.bl_relax.proofs.Inside.{inside_dots_fit}
-use Rattle.bl_relax.proofs.point.costs_less.Goals as goal
+use Rattle.bl_point.proofs.Inside.{inside_dots_fit}
+use Rattle.bl_point.proofs.point.cost_at.Goals as goal
 
-pub dot_product-value-requires-clause-fits : goal.dot_product-value-requires-clause-fits
-dot_product-value-requires-clause-fits c =
+pub dot_product-requires-clause-fits : goal.dot_product-requires-clause-fits
+dot_product-requires-clause-fits c =
     let q = c.args.problem.now in
     let f = c.requires.problem_fits in
     subst (λ xs. PartialDotsFit w128 xs c.args.point.now) (sym c.cost.ensures.value)

@@ -4,8 +4,8 @@ use Rattle.std.proofs.lemmas.List.{get_or_read}
 use Rattle.bl_whole.specs.Within.{PartialDotsFit}
 use Rattle.bl_terms.specs.Bounds.{linear_at, no_linear}
 use Rattle.bl_limits.specs.declared.TheConstants.{MAX_PROBLEM_COEFFICIENT}
-use Rattle.bl_relax.proofs.Inside.{inside_dots_fit}
-use Rattle.bl_relax.proofs.point.meets_rows.Goals as goal
+use Rattle.bl_point.proofs.Inside.{inside_dots_fit}
+use Rattle.bl_point.proofs.point.meets_rows.Goals as goal
 
 pub dot_product-value-requires-clause-fits : goal.dot_product-value-requires-clause-fits
 dot_product-value-requires-clause-fits c =

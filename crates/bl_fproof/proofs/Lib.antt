@@ -1,0 +1,4 @@
+pub mod Truth
+pub mod Picks
+pub mod Problems
+pub mod Walks
