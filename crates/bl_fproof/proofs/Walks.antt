@@ -1,5 +1,6 @@
 -- A walk over the nodes of a tree, step by step on the stack of the boxes that are still to be closed.
-use Rattle.std.proofs.Common.{◌≡◌, ℕ, zero, suc, ◌+◌, ◌<◌, List, [], ◌∷◌, length, refl, sym, ◌∙◌, ap, subst, arith, add-one}
+use Rattle.std.proofs.Common.{◌≡◌, ℕ, zero, suc, ◌+◌, ◌<◌, List, [], ◌∷◌, length, refl, sym, ◌∙◌, ap, subst, arith}
+use Rattle.std.proofs.Common.{add-one}
 use Rattle.std.specs.Prelude.{Option, ℤ, drop, All, reverse, ◌++◌, slice_index_or, Bool, true, false, IsTrue, ◌↔◌}
 use Rattle.std.proofs.lemmas.List.{reverse-append, length-append, length-map, get_or_append_left, get_or-map}
 use Rattle.std.proofs.Math.ListN.{get_or}
@@ -9,7 +10,8 @@ use Rattle.std.proofs.Math.Seq.{get_or-append_seam}
 use Rattle.std.proofs.Math.Seq.{drop-length, drop-cons}
 use Rattle.bl_terms.specs.Points.{Area, IsArea, IsWithinArea}
 use Rattle.bl_terms.specs.Bounds.{Problem, Multipliers, Proves, over}
-use Rattle.bl_terms.specs.Trees.{BareNode, Node, Leaf, Split, Anything, CanSplit, Covers, FailsFirst, low_half, high_half}
+use Rattle.bl_terms.specs.Trees.{BareNode, Node, Leaf, Split, Anything, CanSplit, Covers, FailsFirst, low_half}
+use Rattle.bl_terms.specs.Trees.{high_half}
 use Rattle.bl_terms.specs.Trees.{IsTree}
 use Rattle.bl_terms.proofs.TreeLemmas.{leaves_are_parts}
 use Rattle.bl_terms.proofs.PointLemmas.{part_of_part}
@@ -159,7 +161,8 @@ walk_goes_on q u nodes i n stack walked e stands = record {
       (subst (λ ns. CoversStack q u ns stack) (sym e) (covers_step q u n (drop (i + 1) nodes) stack stands c));
   fails = λ k f. subst (λ m. FailsToClose q u nodes m) (omega arith)
       (walked.fails (suc k)
-      (subst (λ ns. FailsOnStack q u ns stack (suc k)) (sym e) (fails_later q u n (drop (i + 1) nodes) stack k stands f)));
+      (subst (λ ns. FailsOnStack q u ns stack (suc k)) (sym e)
+      (fails_later q u n (drop (i + 1) nodes) stack k stands f)));
 }
 
 pub walk_fails : (q : Problem) (u : Option ℤ) (nodes : List (BareNode Multipliers)) (i : ℕ) (n : BareNode Multipliers)
@@ -167,7 +170,8 @@ pub walk_fails : (q : Problem) (u : Option ℤ) (nodes : List (BareNode Multipli
     → FailsToClose q u nodes i
 walk_fails q u nodes i n stack walked e not =
     subst (λ m. FailsToClose q u nodes m) (omega arith)
-    (walked.fails 0 (subst (λ ns. FailsOnStack q u ns stack 0) (sym e) (fails_here q u n (drop (i + 1) nodes) stack not)))
+    (walked.fails 0
+    (subst (λ ns. FailsOnStack q u ns stack 0) (sym e) (fails_here q u n (drop (i + 1) nodes) stack not)))
 
 -- after the last node: all is covered where the stack is empty, else the list ended early
 pub walk_ends : (q : Problem) (u : Option ℤ) (nodes : List (BareNode Multipliers))

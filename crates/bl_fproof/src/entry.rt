@@ -34,7 +34,8 @@ impl Model for Entry {
 
     ghost view = { λ e. record { program = arc_value e.model; link = e.link.items; answered = e.answered } };
 
-    ghost invariant = { λ e. IsAdmitted (record { program = arc_value e.model; link = e.link.items; answered = e.answered }) };
+    ghost invariant = { λ e. IsAdmitted
+        (record { program = arc_value e.model; link = e.link.items; answered = e.answered }) };
 }
 
 impl Entry {

@@ -64,7 +64,8 @@ pub fn first_failing_step(
     steps: &[Step],
 ) -> Result<Option<usize>, AllocError>
     ensures { IfOk result (λ o.
-        MatchOption o (Closes rows.now cutoff (nodes_of steps.now)) (FailsToClose rows.now cutoff (nodes_of steps.now))) }
+        MatchOption o (Closes rows.now cutoff (nodes_of steps.now))
+        (FailsToClose rows.now cutoff (nodes_of steps.now))) }
 {
     let mut stack = Vec::new(alloc);
     stack.push(Part::whole(alloc, rows)?)?;

@@ -12,7 +12,8 @@ plus_product-sum-requires-clause-sum_fits c =
     let coef : FitsSigned w64 (slice_index_or c.args.coef.now place (pos 0)) = search rules in
     let value : FitsSigned w64 (slice_index_or c.args.values.now j (pos 0)) = search rules in
     rw (to_z-of_z, to_z-of_z, c.loop-j.invariant)
-    (pick_sum_fits c.args.coef.now c.args.values.now c.args.places.now j c.requires.coef c.requires.values c.requires.few
+    (pick_sum_fits c.args.coef.now c.args.values.now c.args.places.now j c.requires.coef c.requires.values
+    c.requires.few
     c.loop-j-test.true)
 
 pub loop-j-preserved : goal.loop-j-preserved
