@@ -1,7 +1,7 @@
 //! Answers to the links of Moore and Bard's program (1990), worked out by hand.
 
-ghost use Rattle.std.specs.Prelude.{pos, [], IfOk};
-ghost use Rattle.bl_raw.specs.Raw.{IsColumn, IsRow};
+ghost use Rattle.std.specs.Prelude.{◌≡◌, ◌≤◌, pos, [], length, vec_len, All, IfOk};
+ghost use Rattle.bl_raw.specs.Raw.{FitsModel, IsColumn, IsRow};
 
 use super::*;
 use bl_bound::Proof;
@@ -40,6 +40,41 @@ fn column(alloc: Global, cost: i64, entries: &[(u32, i64)]) -> Result<RawColumn,
     })
 }
 
+/// The model of these rows, columns and follower.
+fn model(
+    alloc: Global,
+    rows: Vec<RawRow>,
+    columns: Vec<RawColumn>,
+    aux: RawAux,
+) -> Result<Bilevel, Fail>
+    requires row_count { vec_len rows ≤ 200 }
+    requires column_count { vec_len columns ≤ 120 }
+    requires rows { All IsRow rows.items }
+    requires columns { All (IsColumn (length rows.items)) columns.items }
+    requires aux { FitsModel (length columns.items) (length rows.items) aux }
+{
+    let mps = RawMps {
+        maximise: false,
+        objective: name(alloc, b'Z')?,
+        rows: Listed::new(rows),
+        columns: Listed::new(columns),
+    };
+    Ok(build(alloc, &mps, &aux)?)
+}
+
+/// The follower's columns and rows and his costs, which he minimises.
+fn follower(alloc: Global, columns: &[u32], rows: &[u32], costs: &[i64]) -> Result<RawAux, Fail>
+    ensures { IfOk result
+        (λ aux. aux ≡ record { columns = columns.now; rows = rows.now; costs = costs.now; sense = pos 1 }) }
+{
+    Ok(RawAux {
+        columns: Listed::new(columns.to_vec(alloc)?),
+        rows: Listed::new(rows.to_vec(alloc)?),
+        costs: Listed::new(costs.to_vec(alloc)?),
+        sense: 1,
+    })
+}
+
 // X leads and Y from 0 to 10 follows with the cost Y, in all rows:
 // -25X + 20Y <= 30, X + 2Y <= 10, 2X - Y <= 15, 2X + 10Y >= 15.
 fn moore_bard(alloc: Global) -> Result<Bilevel, Fail> {
@@ -53,19 +88,8 @@ fn moore_bard(alloc: Global) -> Result<Bilevel, Fail> {
         column(alloc, -1, &[(0, -25), (1, 1), (2, 2), (3, 2)])?,
         column(alloc, -10, &[(0, 20), (1, 2), (2, -1), (3, 10)])?,
     ]?;
-    let mps = RawMps {
-        maximise: false,
-        objective: name(alloc, b'Z')?,
-        rows: Listed::new(rows),
-        columns: Listed::new(columns),
-    };
-    let aux = RawAux {
-        columns: Listed::new(vec![in alloc; 1u32]?),
-        rows: Listed::new(vec![in alloc; 0u32, 1, 2, 3]?),
-        costs: Listed::new(vec![in alloc; 1i64]?),
-        sense: 1,
-    };
-    Ok(build(alloc, &mps, &aux)?)
+    let aux = follower(alloc, &[1], &[0, 1, 2, 3], &[1])?;
+    model(alloc, rows, columns, aux)
 }
 
 fn shut(alloc: Global, den: i64, mult: &[i64]) -> Result<Step, Fail> {
