@@ -9,25 +9,17 @@
 # usage: tools/measure_pivots.sh
 set -euo pipefail
 
-top=$(cd "$(dirname "$0")/.." && pwd)
-work=$(mktemp -d)
-trap 'rm -rf "$work"' EXIT
-cd "$work"
-git init -q .
-mkdir -p crates/measure/src crates/measure/specs crates/measure/proofs/measure plain
-for crate in bl_whole bl_terms bl_frac bl_bound bl_tableau; do
-    cp -r "$top/crates/$crate" crates/
-    grep "^$crate:" "$top/crates.txt" >> crates.txt
-done
-echo 'measure: anyhow bl_bound bl_frac bl_tableau bl_terms' >> crates.txt
-touch crates/measure/specs/Lib.antt crates/measure/proofs/Lib.antt
+. "$(dirname "$0")/common.sh"
+enter_fresh_folder
+make_workspace anyhow bl_bound bl_frac bl_simplex bl_tableau bl_terms
+mkdir crates/measure/proofs/measure
 
 cat > crates/measure/src/main.rt <<'RATTLE'
 //! Times twenty pivots of a dictionary.
 #![tactic(auto)]
 
 ghost use Rattle.std.specs.Prelude.{◌≡◌, ◌+◌, ◌<◌, ◌≤◌, false, length, OnOk};
-ghost use Rattle.bl_tableau.specs.Dictionaries.{columns, cost_row};
+ghost use Rattle.bl_simplex.specs.Dictionaries.{columns, cost_row};
 
 use anyhow::{Result, bail};
 use bl_bound::Problem;
@@ -228,7 +220,7 @@ fn main() {
 RUST
 
 rustc -O -o plain/plain plain/plain.rs
-(cd crates/measure && rt run) > run.log 2>&1 || { tail -n 20 run.log >&2; exit 2; }
+build_measure
 echo 'bl_tableau'
 crates/measure/out/measure
 echo 'plain Rust'

@@ -10,15 +10,9 @@
 # usage: tools/measure_reading.sh [MIBS]
 set -euo pipefail
 
-top=$(cd "$(dirname "$0")/.." && pwd)
-mibs=$(realpath "${1:-$top/crates/mibs_run/out/mibs_run}")
-if [ ! -x "$mibs" ]; then
-    echo "measure_reading: no program at $mibs: build it by 'rt run' in crates/mibs_run" >&2
-    exit 2
-fi
-work=$(mktemp -d)
-trap 'rm -rf "$work"' EXIT
-cd "$work"
+. "$(dirname "$0")/common.sh"
+find_mibs "${1:-}"
+enter_fresh_folder
 
 cat > reading.rs <<'RUST'
 //! A straightforward reader of the MPS profile in plain Rust, and the texts that it reads.

@@ -11,19 +11,9 @@
 # usage: tools/measure_relax.sh
 set -euo pipefail
 
-top=$(cd "$(dirname "$0")/.." && pwd)
-work=$(mktemp -d)
-trap 'rm -rf "$work"' EXIT
-cd "$work"
-git init -q .
-mkdir -p crates/measure/src crates/measure/specs crates/measure/proofs plain
-for crate in bl_limits bl_whole bl_terms bl_raw bl_simplex bl_frac bl_bound bl_tableau bl_licence bl_duality \
-    bl_vertex bl_relax; do
-    cp -r "$top/crates/$crate" crates/
-    grep "^$crate:" "$top/crates.txt" >> crates.txt
-done
-echo 'measure: anyhow bl_bound bl_licence bl_relax' >> crates.txt
-touch crates/measure/specs/Lib.antt crates/measure/proofs/Lib.antt
+. "$(dirname "$0")/common.sh"
+enter_fresh_folder
+make_workspace anyhow bl_bound bl_licence bl_relax
 
 cat > crates/measure/src/main.rt <<'RATTLE'
 //! Times relaxations.
@@ -270,7 +260,7 @@ fn main() {
 RUST
 
 rustc -O -o plain/plain plain/plain.rs
-(cd crates/measure && rt run) > run.log 2>&1 || { tail -n 20 run.log >&2; exit 2; }
+build_measure
 echo 'bl_relax'
 crates/measure/out/measure
 echo 'doubles in plain Rust'

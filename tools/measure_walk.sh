@@ -10,16 +10,10 @@
 # usage: tools/measure_walk.sh [MIBS] [SEED]
 set -euo pipefail
 
-top=$(cd "$(dirname "$0")/.." && pwd)
-mibs=$(realpath "${1:-$top/crates/mibs_run/out/mibs_run}")
+. "$(dirname "$0")/common.sh"
+find_mibs "${1:-}"
 seed=${2:-1}
-if [ ! -x "$mibs" ]; then
-    echo "measure_walk: no program at $mibs: build it by 'rt run' in crates/mibs_run" >&2
-    exit 2
-fi
-work=$(mktemp -d)
-trap 'rm -rf "$work"' EXIT
-cd "$work"
+enter_fresh_folder
 
 cat > walk.rs <<'RUST'
 //! The walk of every point in plain Rust, and the model that it walks.
