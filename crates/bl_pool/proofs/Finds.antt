@@ -6,7 +6,8 @@ use Rattle.std.specs.Cmp.Rules.{signed_items}
 use Rattle.std.specs.List.{find, list_any}
 use Rattle.std.specs.Option.{MatchOption, option_or}
 use Rattle.std.specs.Ordering.{int_eq}
-use Rattle.std.proofs.lemmas.List.Elements.{All-nil, All-cons, All-head, All-tail, Contains-get_or, Contains-append_right}
+use Rattle.std.proofs.lemmas.List.Elements.{All-nil, All-cons, All-head, All-tail}
+use Rattle.std.proofs.lemmas.List.Elements.{Contains-get_or, Contains-append_right}
 use Rattle.std.proofs.lemmas.List.Folds.{find-append}
 use Rattle.bl_fproof.specs.Entries.{Admitted}
 use Rattle.bl_pool.specs.Pools.{entry_of_link}
@@ -30,7 +31,7 @@ find-none p f [] e = refl
 find-none p f (x ∷ xs) e =
     none-any (p (f x)) x (find (λ x. p (f x)) xs) (list_any p (map f xs)) (find-none p f xs) e
 
-abbrev IsFound : List ℤ → List Admitted → Option Admitted → Type 0
+abbrev pub IsFound : List ℤ → List Admitted → Option Admitted → Type 0
 IsFound l entries found = MatchOption found (All (λ e. e.link ≢ l) entries) (λ e. Contains entries e × (e.link ≡ l))
 
 found-further : (l : List ℤ) (e : Admitted) (entries : List Admitted) → (e.link ≢ l) → (found : Option Admitted)

@@ -9,7 +9,7 @@ use Rattle.std.proofs.lemmas.List.Folds.{find-append}
 use Rattle.bl_fproof.specs.Entries.{Admitted}
 use Rattle.bl_pool.specs.declared.fail.PutFail.{PutFail}
 use Rattle.bl_pool.specs.declared.fail.PutFail.TheVariants.{OtherModel, NotKept, Memory}
-use Rattle.bl_pool.specs.Pools.{EntryPool, entry_of_link, with_entry}
+use Rattle.bl_pool.specs.Pools.{EntryPool, entry_of_link}
 use Rattle.bl_pool.specs.Puts.{IsPut, IsAdded, IsThere}
 use Rattle.bl_pool.specs.Laws.{Put, ArePuts, kept_of}
 use Rattle.bl_pool.proofs.Finds.{its_own, none-of, repeated}

@@ -1,5 +1,6 @@
 -- Trusted. What any puts leave in a pool.
-use Rattle.std.specs.Prelude.{◌≡◌, ◌≢◌, ◌++◌, ◌∷◌, [], ℤ, List, All, Contains, MatchOption, Some, Result, Ok, map, filter}
+use Rattle.std.specs.Prelude.{◌≡◌, ◌≢◌, ◌++◌, ◌∷◌, [], ℤ, List, All, Contains, MatchOption, Some}
+use Rattle.std.specs.Prelude.{Result, Ok, map, filter}
 use Rattle.std.specs.Result.{is_ok}
 use Rattle.bl_fproof.specs.Entries.{Admitted}
 use Rattle.bl_pool.specs.declared.fail.PutFail.{PutFail}

@@ -18,6 +18,11 @@ pub record IsEntryOf (p : Program) (e : Admitted) : Type 0 where
   pub program : e.program ≡ p
   pub admitted : IsAdmitted e
 
+-- ... and of the link
+pub record IsEntryAt (p : Program) (l : List ℤ) (e : Admitted) : Type 0 where
+  pub entry : IsEntryOf p e
+  pub link : e.link ≡ l
+
 -- what every pool keeps: its entries are admitted, no two are of the same link, and there aren't too many
 pub record IsPool (pool : EntryPool) : Type 0 where
   pub admitted : All (IsEntryOf pool.program) pool.entries

@@ -6,12 +6,12 @@
 mod fail;
 mod kept;
 pub mod laws;
+mod models;
 mod pool;
-mod same;
 #[cfg(test)]
 mod tests;
 
 pub use fail::PutFail;
 pub use kept::Kept;
+pub use models::same;
 pub use pool::Pool;
-pub use same::is_same_model;

@@ -1,13 +1,14 @@
 //! The pool.
-ghost use Rattle.std.specs.Prelude.{◌≡◌, ◌<◌, [], length, None, IfOk, OnErr};
+ghost use Rattle.std.specs.Prelude.{◌≡◌, ◌<◌, [], length, None, IfSome, IfOk, OnErr};
 ghost use Rattle.std.specs.Arc.{arc_value};
 ghost use Rattle.std.specs.Option.{option_copied};
-ghost use Rattle.bl_pool.specs.Pools.{IsPool, entry_of_link, with_entry};
+ghost use Rattle.bl_fproof.specs.Entries.{IsAdmitted};
+ghost use Rattle.bl_pool.specs.Pools.{IsEntryAt, IsPool, entry_of_link, with_entry};
 ghost use Rattle.bl_pool.specs.Puts.{IsPut};
 
 use crate::fail::PutFail;
 use crate::kept::Kept;
-use crate::same::is_same_model;
+use crate::models::same;
 use bl_fproof::Entry;
 use bl_model::Bilevel;
 use indexmap::IndexMap;
@@ -53,6 +54,7 @@ impl Pool {
     /// The entry of the link, none where there is none.
     pub fn get(&self, link: &[i64]) -> Option<&Kept>
         ensures value { option_copied result ≡ entry_of_link link.now self.now.entries }
+        ensures entry { IfSome result (λ kept. IsEntryAt self.now.program link.now kept.now) }
         ensures pool { IsPool self.now }
     {
         self.entries.get(link)
@@ -60,9 +62,10 @@ impl Pool {
 
     /// Keeps the entry where there is none of its link yet, and gives the one that is kept of it.
     pub fn put(&mut self, alloc: Global, entry: Entry) -> Result<Kept, PutFail>
-        ensures { IsPut self.old entry result self.new }
+        ensures put { IsPut self.old entry result self.new }
+        ensures entry { IfOk result (IsEntryAt self.old.program entry.link) }
     {
-        if !is_same_model(&self.model, entry.model()) {
+        if !same(&self.model, entry.model()) {
             return Err(PutFail::OtherModel(entry));
         }
         match self.get(entry.link()) {
@@ -74,8 +77,10 @@ impl Pool {
     /// Keeps an entry of a link of which there is none, where there is a place.
     fn put_new(&mut self, alloc: Global, entry: Entry) -> Result<Kept, PutFail>
         requires model { entry.program ≡ self.old.program }
+        requires admitted { IsAdmitted entry }
         requires absent { entry_of_link entry.link self.old.entries ≡ None }
-        ensures { IsPut self.old entry result self.new }
+        ensures put { IsPut self.old entry result self.new }
+        ensures entry { IfOk result (IsEntryAt self.old.program entry.link) }
     {
         let kept = Kept::new(alloc, entry)?;
         if self.entries.len() >= self.most as usize {

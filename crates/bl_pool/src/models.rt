@@ -5,7 +5,7 @@ ghost use Rattle.bl_pool.specs.Same.{HaveSameCosts};
 use bl_model::{BRow, Bilevel};
 
 /// Whether two models are the same in each part.
-pub fn is_same_model(model: &Bilevel, other: &Bilevel) -> bool
+pub fn same(model: &Bilevel, other: &Bilevel) -> bool
     ensures { IsTrue result ↔ (model.now ≡ other.now) }
 {
     has_same_box(model, other)
