@@ -51,12 +51,12 @@ more_by_shut q budget found new g g' a w h low p e =
     let within = h.within in
     subst (λ g'. IsOneMore q budget new g g') (sym e) (record {
       goes_on = record {
-          grown = grown_by_shut q (cutoff_of new) g a (reverse g.stack) w
-              (lower q budget found new g (a ∷ reverse g.stack) h low) p;
-          best = low.best;
-          within = omega arith;
-          full = λ e. let f = h.full e in (omega (arith, f.0), f.1);
-        };
+        grown = grown_by_shut q (cutoff_of new) g a (reverse g.stack) w
+            (lower q budget found new g (a ∷ reverse g.stack) h low) p;
+        best = low.best;
+        within = omega arith;
+        full = λ e. let f = h.full e in (omega (arith, f.0), f.1);
+      };
       longer = one;
     })
 

@@ -8,6 +8,8 @@ mod response;
 mod search;
 mod solve;
 mod spent;
+#[cfg(test)]
+mod tests;
 mod work;
 
 pub use bl_follower_tree::{Licensed, LicensedNode};

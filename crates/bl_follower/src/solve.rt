@@ -82,7 +82,5 @@ pub fn solve_follower(
     }
     let link = Vec::from_slice(alloc, link)?;
     let (tree, cutoffs, _) = tree.into_parts();
-    Err(FollowerFail::Spent(Spent::make(
-        model, link, budget, tree, cutoffs,
-    )))
+    Err(FollowerFail::Spent(Spent::make(model, link, budget, tree, cutoffs)))
 }

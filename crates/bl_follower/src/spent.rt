@@ -27,11 +27,21 @@ impl Model for Spent {
 
     ghost Value = { Exhausted };
 
-    ghost view = { λ s. record { program = arc_value s.model; link = s.link.items; budget = s.budget;
-        nodes = s.tree.nodes; cutoffs = s.cutoffs } };
+    ghost view = { λ s. record {
+      program = arc_value s.model;
+      link = s.link.items;
+      budget = s.budget;
+      nodes = s.tree.nodes;
+      cutoffs = s.cutoffs;
+    } };
 
-    ghost invariant = { λ s. IsExhausted (record { program = arc_value s.model; link = s.link.items;
-        budget = s.budget; nodes = s.tree.nodes; cutoffs = s.cutoffs }) };
+    ghost invariant = { λ s. IsExhausted (record {
+      program = arc_value s.model;
+      link = s.link.items;
+      budget = s.budget;
+      nodes = s.tree.nodes;
+      cutoffs = s.cutoffs;
+    }) };
 }
 
 impl Spent {
@@ -42,10 +52,20 @@ impl Spent {
         tree: Licensed,
         cutoffs: Listed<Option<i64>>,
     ) -> Spent
-        requires { IsExhausted (record { program = arc_value model; link = link.items; budget = budget;
-            nodes = tree.nodes; cutoffs = cutoffs }) }
-        ensures { result ≡ record { program = arc_value model; link = link.items; budget = budget;
-            nodes = tree.nodes; cutoffs = cutoffs } }
+        requires { IsExhausted (record {
+          program = arc_value model;
+          link = link.items;
+          budget = budget;
+          nodes = tree.nodes;
+          cutoffs = cutoffs;
+        }) }
+        ensures { result ≡ record {
+          program = arc_value model;
+          link = link.items;
+          budget = budget;
+          nodes = tree.nodes;
+          cutoffs = cutoffs;
+        } }
     {
         Spent {
             model,

@@ -10,7 +10,7 @@ ghost use Rattle.bl_fproof.specs.Stacks.{IsPart};
 ghost use Rattle.bl_follower.specs.Search.{cutoff_of, IsBestSoFar, IsLowerBest, IsWorked, IsUnderWay};
 ghost use Rattle.bl_follower.specs.Search.{IsSplitOrLeft, IsOneMore};
 
-use crate::place::{Place, widest};
+use crate::place::{Place, place_by, widest};
 use crate::response::{Response, cutoff, response_at};
 use bl_bound::{Proof, plain_close};
 use bl_follower_tree::GrowingTree;
@@ -94,7 +94,9 @@ fn split_or_leave(
     if tree.size() + 3 > budget as usize {
         return tree.leave(cutoff, why);
     }
-    let halves = part.halves(alloc, place.column as usize, place.at)?.unwrap();
+    let halves = part
+        .halves(alloc, place.column as usize, place.at)?
+        .unwrap();
     tree.split(place.column, place.at, halves, cutoff, why)
 }
 
@@ -110,7 +112,7 @@ pub(crate) fn work_on(
     requires { IsUnderWay rows.now budget best.old tree.old (part ∷ reverse tree.old.stack) }
     ensures { IfOk result (λ _. IsOneMore rows.now budget best.new tree.old tree.new) }
 {
-    let Some(place) = widest(&part) else {
+    let Some(widest) = widest(&part) else {
         let proof = shut_point(alloc, rows, &part, best)?;
         tree.shut(proof)?;
         return Ok(());
@@ -118,6 +120,7 @@ pub(crate) fn work_on(
     match relax_down(alloc, rows, &part, best)? {
         Worked::Shut(proof) => tree.shut(proof)?,
         Worked::Stuck(why) => {
+            let place = place_by(rows, &part, &why, widest);
             split_or_leave(alloc, budget, part, place, cutoff(best), why, tree)?
         }
     }

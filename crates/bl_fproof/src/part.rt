@@ -51,6 +51,14 @@ impl Part {
         &self.hi
     }
 
+    /// Whether both halves have a number in the column.
+    pub fn can_split(&self, column: usize, at: i64) -> bool
+        requires { IsArea self.now }
+        ensures { IsTrue result ↔ CanSplit self.now column at }
+    {
+        can_split(&self.lo, &self.hi, column, at)
+    }
+
     /// The lower and the higher half, none where not both of them have a number in the column.
     pub fn halves(
         self,
