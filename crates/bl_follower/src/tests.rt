@@ -110,6 +110,21 @@ fn half(alloc: Global) -> Result<Bilevel, Fail> {
     model(alloc, rows, columns, aux)
 }
 
+/// A response and its cost.
+fn first_value(answered: &Answered) -> Option<(i64, i64)> {
+    match answered {
+        Answered::Best {
+            response,
+            value,
+            ..
+        } => match response.as_slice().first() {
+            Some(first) => Some((*first, *value)),
+            None => None,
+        },
+        Answered::NoResponse { .. } => None,
+    }
+}
+
 /// What the follower answers to the link, none where the budget is spent: his response and its cost, or that there is
 /// none.
 fn answer(
@@ -123,16 +138,9 @@ fn answer(
         return Ok(None);
     }
     match solve_follower(alloc, model, link, budget) {
-        Ok(solved) => match solved.answered {
-            Answered::Best {
-                response,
-                value,
-                ..
-            } => Ok(Some(response.as_slice().first().map(|y| (*y, value)))),
-            Answered::NoResponse { .. } => Ok(Some(None)),
-        },
+        Ok(solved) => Ok(Some(first_value(&solved.answered))),
         Err(FollowerFail::Spent(_)) => Ok(None),
-        Err(fail) => Err(Fail::from(fail)),
+        Err(FollowerFail::Memory) => Err(Fail::new("no memory")),
     }
 }
 
@@ -157,28 +165,31 @@ fn a_relaxation_that_is_not_whole(rt: HostRuntime) -> Result<(), Fail> {
     Ok(())
 }
 
-// Y = 1/2 rounds to the response 1, whose cost is the cutoff of the licence.
+/// Whether the tree is one leaf that is left open at a fractional point.
+fn is_left_at_fraction(tree: &Licensed) -> bool {
+    match tree.nodes.as_slice() {
+        [LicensedNode::Left(Some(Why::Fraction(_)))] => true,
+        _ => false,
+    }
+}
+
+/// Whether the budget is spent with such a tree.
+fn is_spent(alloc: Global, model: Bilevel, link: &[i64], budget: u32) -> Result<bool, Fail> {
+    let model = Arc::new(alloc, model)?;
+    if budget == 0 || !is_link(&model, link) {
+        return Ok(false);
+    }
+    match solve_follower(alloc, model, link, budget) {
+        Ok(_) => Ok(false),
+        Err(FollowerFail::Spent(spent)) => Ok(is_left_at_fraction(spent.tree())),
+        Err(FollowerFail::Memory) => Err(Fail::new("no memory")),
+    }
+}
+
 #[test]
 fn one_node_is_left_with_its_licence(rt: HostRuntime) -> Result<(), Fail> {
     let alloc = rt.alloc();
-    let model = Arc::new(alloc, half(alloc)?)?;
-    if !is_link(&model, &[]) {
-        return Ok(());
-    }
-    match solve_follower(alloc, model, &[], 1) {
-        Err(FollowerFail::Spent(spent)) => {
-            let nodes = spent.tree().nodes.as_slice();
-            assert_eq!(rt; nodes.len(), 1);
-            assert!(rt;
-                matches!(
-                    nodes.first(),
-                    Some(LicensedNode::Left(Some(Why::Fraction(_))))
-                )
-            );
-            assert_eq!(rt; spent.cutoffs(), [Some(3)].as_slice());
-            assert_eq!(rt; spent.budget(), 1);
-        }
-        _ => assert!(rt; false),
-    }
+    assert!(rt; is_spent(alloc, half(alloc)?, &[], 1)?);
+    assert!(rt; !is_spent(alloc, half(alloc)?, &[], 3)?);
     Ok(())
 }

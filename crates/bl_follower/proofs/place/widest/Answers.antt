@@ -37,6 +37,7 @@ loop-j-preserved c =
           rw (w.most-is, w.place-is)
           (record {
             most = so_far.most;
-            place = widest_more a j (to_z w64 c.loop-j.most-bits) c.loop-j.place so_far.place order (omega (arith, ints));
+            place = widest_more a j (to_z w64 c.loop-j.most-bits) c.loop-j.place so_far.place order
+                (omega (arith, ints));
           })
     ]
