@@ -1,10 +1,10 @@
 -- The middle of a range, and the widest column so far.
-use Rattle.std.proofs.Common.{◌≡◌, ℕ, ◌+◌, ◌<◌, ◌/◌, refl, arith, below_more}
+use Rattle.std.proofs.Common.{◌≡◌, ℕ, ◌+◌, ◌<◌, arith, below_more}
 use Rattle.std.specs.Prelude.{ℤ, pos, negsuc, ◌-ℤ◌, ◌≤ℤ◌, ◌<ℤ◌, MatchOption, Option, Some, None}
 use Rattle.std.specs.Int.Signed.{quot_z}
 use Rattle.std.proofs.lemmas.Int.{ints}
 use Rattle.bl_whole.specs.Sums.{component}
-use Rattle.bl_terms.specs.Points.{Area, IsArea}
+use Rattle.bl_terms.specs.Points.{Area}
 use Rattle.bl_terms.specs.Trees.{CanSplit}
 use Rattle.bl_follower.specs.declared.place.Place.{Place}
 

@@ -1,24 +1,23 @@
 -- The search goes on: what is kept where a box is shut, split or left open.
-use Rattle.std.proofs.Common.{◌≡◌, ℕ, ◌+◌, ◌≤◌, ◌<◌, List, [], ◌∷◌, ◌++◌, length, sym, ◌∙◌, ap, subst, arith, inl, inr}
-use Rattle.std.specs.Prelude.{ℤ, Option, Some, None, reverse, true, ◌⊎◌}
+use Rattle.std.proofs.Common.{◌≡◌, ℕ, ◌+◌, ◌≤◌, List, [], ◌∷◌, ◌++◌, length, sym, ◌∙◌, ap, subst, arith, inl, inr}
+use Rattle.std.specs.Prelude.{ℤ, Option, Some, None, reverse}
 use Rattle.std.proofs.lemmas.Bool.{false≢true}
 use Rattle.std.proofs.lemmas.Int.{ints}
 use Rattle.std.proofs.lemmas.List.{length-append, length-reverse}
 use Rattle.bl_terms.specs.Points.{Area}
 use Rattle.bl_terms.specs.Bounds.{Problem, Multipliers, Proves, over}
-use Rattle.bl_terms.specs.Trees.{CanSplit, low_half, high_half, point_count}
+use Rattle.bl_terms.specs.Trees.{CanSplit, low_half, high_half}
 use Rattle.bl_bound.specs.Plain.{IsOnePoint}
 use Rattle.bl_licence.specs.declared.why.Why.{Why}
 use Rattle.bl_licence.specs.Why.{IsLicence}
 use Rattle.bl_fproof.proofs.Walks.{top_first}
 use Rattle.bl_fproof.specs.Stacks.{IsPart}
-use Rattle.bl_follower_tree.specs.declared.licensed.LicensedNode.{LicensedNode}
 use Rattle.bl_follower_tree.specs.declared.licensed.LicensedNode.TheVariants as node
 use Rattle.bl_follower_tree.specs.Growth.{Grown, IsGrown, beginning, shut_by, split_by, left_by}
 use Rattle.bl_follower_tree.proofs.Growth.{grown_at_start, grown_by_shut, grown_by_split, grown_by_leave, grown_below}
 use Rattle.bl_follower_tree.proofs.Growth.{room_for_split}
 use Rattle.bl_follower.specs.declared.response.Response.{Response}
-use Rattle.bl_follower.specs.Search.{cutoff_of, IsBestSoFar, IsLowerBest, IsUnderWay, IsSplitOrLeft, IsOneMore}
+use Rattle.bl_follower.specs.Search.{cutoff_of, IsLowerBest, IsUnderWay, IsSplitOrLeft, IsOneMore}
 use Rattle.bl_follower.proofs.Responses.{best_reached}
 
 one_longer : {X : Type 0} (xs : List X) (x : X) → length (xs ++ x ∷ []) ≡ length xs + 1

@@ -1,6 +1,6 @@
 -- Points of a part of the follower's box as responses, and their costs.
-use Rattle.std.proofs.Common.{◌≡◌, ℕ, ◌<◌, ◌^◌, List, length, refl, sym, ◌∙◌, subst, arith}
-use Rattle.std.specs.Prelude.{ℤ, pos, ◌+ℤ◌, ◌≤ℤ◌, ◌<ℤ◌, unsigned_abs, Option, Some, None, FitsSigned, ◌↔◌}
+use Rattle.std.proofs.Common.{◌≡◌, ◌<◌, ◌^◌, List, length, refl, sym, subst, arith}
+use Rattle.std.specs.Prelude.{ℤ, pos, ◌+ℤ◌, Option, Some, None, FitsSigned}
 use Rattle.std.specs.Int.{w64}
 use Rattle.std.proofs.lemmas.Int.{ints}
 use Rattle.bl_limits.specs.declared.TheConstants.{MAX_NUMBER}

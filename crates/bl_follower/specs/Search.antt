@@ -1,5 +1,5 @@
 -- Internal. The best response so far, what becomes of a box, and the search under way.
-use Rattle.std.specs.Prelude.{◌≡◌, ◌+◌, ◌*◌, ◌≤◌, ◌<◌, ◌^◌, ℕ, ℤ, pos, ◌+ℤ◌, unsigned_abs, List, length, Bool, true}
+use Rattle.std.specs.Prelude.{◌≡◌, ◌+◌, ◌*◌, ◌≤◌, ◌<◌, ◌^◌, ℕ, ℤ, pos, ◌+ℤ◌, unsigned_abs, List, length, true}
 use Rattle.std.specs.Prelude.{Option, Some, None, reverse, ◌⊎◌}
 use Rattle.bl_terms.specs.Points.{Area}
 use Rattle.bl_terms.specs.Bounds.{Problem, Proves, over}
@@ -37,7 +37,8 @@ IsWorked q a u (Stuck why) = IsLicence (over q a) u why
 
 -- the tree is grown with the best response's cost for its cutoff, and these boxes are still to be worked on; it stays
 -- within the budget, and where a leaf was left open, two more nodes would pass it, which no tree of all points does
-pub record IsUnderWay (q : Problem) (budget : ℕ) (found : Option Response) (g : Grown) (boxes : List Area) : Type 0 where
+pub record IsUnderWay (q : Problem) (budget : ℕ) (found : Option Response) (g : Grown) (boxes : List Area)
+    : Type 0 where
   pub grown : IsGrown q (cutoff_of found) g boxes
   pub best : IsBestSoFar q found
   pub within : length g.nodes + length boxes ≤ budget

@@ -1,12 +1,12 @@
 -- What is kept while a tree grows, and what it shows at its end.
-use Rattle.std.proofs.Common.{◌≡◌, ℕ, ◌+◌, ◌*◌, ◌≤◌, List, [], ◌∷◌, ◌++◌, length, refl, sym, ◌∙◌, ap, subst, arith}
-use Rattle.std.specs.Prelude.{ℤ, Option, Some, None, All, map, true, false}
+use Rattle.std.proofs.Common.{◌≡◌, ℕ, ◌+◌, ◌*◌, ◌≤◌, List, [], ◌∷◌, ◌++◌, length, refl, sym, subst, arith}
+use Rattle.std.specs.Prelude.{ℤ, Option, Some, None, All, false}
 use Rattle.std.proofs.lemmas.Bool.{false≢true}
 use Rattle.std.proofs.lemmas.List.{length-append, map-append, append-nil}
 use Rattle.std.proofs.lemmas.List.Elements.{All-append, All-cons, All-nil, Contains-push, Contains-append_left}
 use Rattle.bl_terms.specs.Points.{Area}
 use Rattle.bl_terms.specs.Bounds.{Problem, Multipliers, Proves, over}
-use Rattle.bl_terms.specs.Trees.{BareNode, Leaf, Split, CanSplit, low_half, high_half, point_count}
+use Rattle.bl_terms.specs.Trees.{CanSplit, low_half, high_half, point_count}
 use Rattle.bl_terms.proofs.TreeLemmas.{point_count-split, point_count-positive}
 use Rattle.bl_bound.specs.Plain.{IsOnePoint}
 use Rattle.bl_licence.specs.declared.why.Why.{Why}
@@ -18,10 +18,11 @@ use Rattle.bl_fproof.specs.Entries.{Closes}
 use Rattle.bl_fproof.proofs.Walks.{low_is_part, high_is_part}
 use Rattle.bl_follower_tree.specs.declared.licensed.LicensedNode.{LicensedNode}
 use Rattle.bl_follower_tree.specs.declared.licensed.LicensedNode.TheVariants as node
-use Rattle.bl_follower_tree.specs.Licences.{Licenses, IsLicensed, IsFinished, HasLeft, split_of}
+use Rattle.bl_follower_tree.specs.Licences.{Licenses, IsLicensed, IsFinished, split_of}
 use Rattle.bl_follower_tree.specs.Shapes.{HaveSameSplits, split_of_step}
 use Rattle.bl_follower_tree.specs.Openings.{Opens, AreParts, points_of}
-use Rattle.bl_follower_tree.specs.Growth.{Grown, IsGrown, IsShownSoFar, IsLowered, beginning, shut_by, split_by, left_by}
+use Rattle.bl_follower_tree.specs.Growth.{Grown, IsGrown, IsLowered}
+use Rattle.bl_follower_tree.specs.Growth.{beginning, shut_by, split_by, left_by}
 use Rattle.bl_follower_tree.proofs.Openings.{opens_more, opens_all, opens_too}
 use Rattle.bl_follower_tree.proofs.Licences.{licenses_more}
 use Rattle.bl_follower_tree.proofs.Cutoffs.{proves_too}
@@ -68,10 +69,10 @@ grown_by_shut q u g a boxes w h p = record {
   licensed = subst (λ us. Licenses q (g.nodes ++ node.Shut ∷ []) us (q.area ∷ []) boxes) (append-nil g.cutoffs)
       (licenses_more q g.nodes (node.Shut ∷ []) g.cutoffs [] (q.area ∷ []) (a ∷ boxes) boxes h.licensed refl);
   shown = λ e. let so_far = h.shown e in record {
-      opens = opens_one_more q u g.steps (step.Shut w) (q.area ∷ []) (a ∷ boxes) boxes so_far.opens (p, refl);
-      same = same_more g.nodes g.steps node.Shut (step.Shut w) so_far.same refl;
-      finished = finished_more g.nodes node.Shut so_far.finished tt;
-    };
+    opens = opens_one_more q u g.steps (step.Shut w) (q.area ∷ []) (a ∷ boxes) boxes so_far.opens (p, refl);
+    same = same_more g.nodes g.steps node.Shut (step.Shut w) so_far.same refl;
+    finished = finished_more g.nodes node.Shut so_far.finished tt;
+  };
   left = λ e. let l = h.left e in (l.0, Contains-append_left g.nodes (node.Shut ∷ []) (node.Left (Some l.0)) l.1);
   room = let one = one_longer g.nodes node.Shut in let room = h.room in
       let some = point_count-positive a h.parts.0.area in omega arith;
@@ -87,11 +88,11 @@ grown_by_split q u c g a boxes j v why h can l =
       licensed = licenses_more q g.nodes (node.Split j v why ∷ []) g.cutoffs (c ∷ []) (q.area ∷ []) (a ∷ boxes)
           halves h.licensed ((can, l), refl);
       shown = λ e. let so_far = h.shown e in record {
-          opens = opens_one_more q u g.steps (step.Split j v) (q.area ∷ []) (a ∷ boxes) halves so_far.opens
-              (can, refl);
-          same = same_more g.nodes g.steps (node.Split j v why) (step.Split j v) so_far.same refl;
-          finished = finished_more g.nodes (node.Split j v why) so_far.finished tt;
-        };
+        opens = opens_one_more q u g.steps (step.Split j v) (q.area ∷ []) (a ∷ boxes) halves so_far.opens
+            (can, refl);
+        same = same_more g.nodes g.steps (node.Split j v why) (step.Split j v) so_far.same refl;
+        finished = finished_more g.nodes (node.Split j v why) so_far.finished tt;
+      };
       left = λ e. let l = h.left e in
           (l.0, Contains-append_left g.nodes (node.Split j v why ∷ []) (node.Left (Some l.0)) l.1);
       room = let one = one_longer g.nodes (node.Split j v why) in let room = h.room in
@@ -118,11 +119,11 @@ grown_below q u v g boxes low h = record {
   parts = h.parts;
   licensed = h.licensed;
   shown = λ e. let so_far = h.shown e in record {
-      opens = opens_too q u v (λ a w p. proves_too (over q a) u v w low p) (nodes_of g.steps) (q.area ∷ []) boxes
-          so_far.opens;
-      same = so_far.same;
-      finished = so_far.finished;
-    };
+    opens = opens_too q u v (λ a w p. proves_too (over q a) u v w low p) (nodes_of g.steps) (q.area ∷ []) boxes
+        so_far.opens;
+    same = so_far.same;
+    finished = so_far.finished;
+  };
   left = h.left;
   room = h.room;
 }

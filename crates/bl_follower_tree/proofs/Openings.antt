@@ -1,6 +1,6 @@
 -- First nodes of trees, and more nodes after them.
-use Rattle.std.proofs.Common.{◌≡◌, ℕ, List, [], ◌∷◌, ◌++◌, length, sym, subst, ap, arith}
-use Rattle.std.specs.Prelude.{ℤ, Option, Some, None}
+use Rattle.std.proofs.Common.{List, [], ◌∷◌, ◌++◌, length, sym, subst, ap, arith}
+use Rattle.std.specs.Prelude.{ℤ, Option}
 use Rattle.bl_terms.specs.Points.{Area}
 use Rattle.bl_terms.specs.Bounds.{Problem, Multipliers, Proves, over}
 use Rattle.bl_terms.specs.Trees.{BareNode, Leaf, Split, Anything, Covers, low_half, high_half}

@@ -30,8 +30,13 @@ impl Model for GrowingTree {
 
     ghost Value = { Grown };
 
-    ghost view = { λ t. record { nodes = t.nodes.items; cutoffs = t.cutoffs.items; steps = t.steps.items;
-        stack = t.stack.items; left = t.is_left } };
+    ghost view = { λ t. record {
+      nodes = t.nodes.items;
+      cutoffs = t.cutoffs.items;
+      steps = t.steps.items;
+      stack = t.stack.items;
+      left = t.is_left;
+    } };
 }
 
 impl GrowingTree {
@@ -117,7 +122,12 @@ impl GrowingTree {
         ensures cutoffs { result.1 ≡ self.cutoffs }
         ensures steps { result.2 ≡ self.steps }
     {
-        let GrowingTree { nodes, cutoffs, steps, .. } = self;
+        let GrowingTree {
+            nodes,
+            cutoffs,
+            steps,
+            ..
+        } = self;
         let nodes = Listed::new(nodes);
         (Licensed { nodes }, Listed::new(cutoffs), Listed::new(steps))
     }

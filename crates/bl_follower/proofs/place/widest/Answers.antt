@@ -1,10 +1,10 @@
-use Rattle.std.proofs.Common.{◌≡◌, ◌+◌, ◌<◌, to_z, length, arith, rules}
-use Rattle.std.specs.Prelude.{ℤ, pos, ◌-ℤ◌, ◌≤ℤ◌, ◌<ℤ◌, slice_index_or, FitsSigned}
+use Rattle.std.proofs.Common.{◌≡◌, ◌<◌, to_z, length, arith, rules}
+use Rattle.std.specs.Prelude.{pos, ◌-ℤ◌, slice_index_or, FitsSigned}
 use Rattle.std.specs.Int.{w64}
 use Rattle.std.proofs.lemmas.Int.{ints, to_z-of_z}
 use Rattle.bl_whole.specs.Sums.{component}
 use Rattle.bl_terms.specs.Trees.{CanSplit}
-use Rattle.bl_follower.proofs.Places.{IsWidestSoFar, widest_more}
+use Rattle.bl_follower.proofs.Places.{widest_more}
 use Rattle.bl_follower.proofs.place.widest.Goals.{then-width-most, else-width-most}
 use Rattle.bl_follower.proofs.place.widest.Goals as goal
 

@@ -1,5 +1,4 @@
-use Rattle.std.proofs.Common.{◌≡◌, refl}
-use Rattle.std.specs.Prelude.{Some}
+use Rattle.std.proofs.Common.{refl}
 use Rattle.bl_terms.specs.Bounds.{over}
 use Rattle.bl_bound.specs.Plain.{IsBetterPoint}
 use Rattle.bl_relax.specs.declared.relaxed.Relaxed.TheVariants.{Closed, Whole}

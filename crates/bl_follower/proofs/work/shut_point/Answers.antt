@@ -1,5 +1,5 @@
-use Rattle.std.proofs.Common.{◌≡◌, ◌∙◌, refl, sym, ap}
-use Rattle.std.specs.Prelude.{ℤ, Some, None}
+use Rattle.std.proofs.Common.{◌≡◌, ◌∙◌, refl, ap}
+use Rattle.std.specs.Prelude.{Some, None}
 use Rattle.bl_terms.specs.Bounds.{over}
 use Rattle.bl_whole.specs.Sums.{dot}
 use Rattle.bl_follower.specs.declared.response.Response.{Response}

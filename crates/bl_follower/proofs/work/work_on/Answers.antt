@@ -1,4 +1,4 @@
-use Rattle.std.proofs.Common.{◌≡◌, subst}
+use Rattle.std.proofs.Common.{subst}
 use Rattle.bl_terms.specs.Bounds.{Proves, over}
 use Rattle.bl_licence.specs.Why.{IsLicence}
 use Rattle.bl_follower.specs.Search.{cutoff_of, IsWorked}
@@ -32,7 +32,6 @@ returns-in_ok-split_or_leave-in-Stuck c =
     let u = cutoff_of c.relax_down.new.best in
     let licence : IsLicence (over q a) u c.in-Stuck.why =
     subst (λ x. IsWorked q a u x) c.in-Stuck.is c.in_ok-proof-2.ensures.worked in
-    more_by_stuck q c.args.budget c.args.best.now c.relax_down.new.best c.args.tree.now _ a c.place_by-place.result.column
-    c.place_by-place.result.at c.cutoff.result c.in-Stuck.why c.requires c.in_ok-proof-2.ensures.best
-    c.place_by-place.ensures licence
-    c.cutoff.ensures c.in_ok-split_or_leave-in-Stuck.ensures
+    more_by_stuck q c.args.budget c.args.best.now c.relax_down.new.best c.args.tree.now _ a
+    c.place_by-place.result.column c.place_by-place.result.at c.cutoff.result c.in-Stuck.why c.requires
+    c.in_ok-proof-2.ensures.best c.place_by-place.ensures licence c.cutoff.ensures c.in_ok-split_or_leave-in-Stuck.ensures
