@@ -4,6 +4,8 @@
 
 mod growing;
 mod licensed;
+#[cfg(test)]
+mod tests;
 
 pub use growing::GrowingTree;
 pub use licensed::{Licensed, LicensedNode};
