@@ -18,5 +18,6 @@ mod walk;
 pub use answered::{Answered, FollowerProof, Step};
 pub use entry::{AdmitFail, Entry, admit};
 pub use link::is_link;
+pub use part::Part;
 pub use rows::{FollowerRow, FollowerRows};
 pub use walk::first_failing_step;

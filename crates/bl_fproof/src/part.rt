@@ -13,7 +13,7 @@ use std::marker::Model;
 
 /// A box of the follower's columns.
 #[derive(Debug, Drop)]
-pub(crate) struct Part {
+pub struct Part {
     lo: Vec<i64>,
     hi: Vec<i64>,
 }
@@ -30,7 +30,7 @@ impl Model for Part {
 
 impl Part {
     /// The whole box.
-    pub(crate) fn whole(alloc: Global, rows: &FollowerRows) -> Result<Part, AllocError>
+    pub fn whole(alloc: Global, rows: &FollowerRows) -> Result<Part, AllocError>
         ensures whole { IfOk result (λ part. part ≡ rows.now.area) }
         ensures part { IfOk result (IsPart rows.now) }
     {
@@ -39,20 +39,28 @@ impl Part {
         Ok(Part { lo, hi })
     }
 
-    pub(crate) fn lo(&self) -> &[i64]
+    pub fn lo(&self) -> &[i64]
         ensures { result.now ≡ self.now.lo }
     {
         &self.lo
     }
 
-    pub(crate) fn hi(&self) -> &[i64]
+    pub fn hi(&self) -> &[i64]
         ensures { result.now ≡ self.now.hi }
     {
         &self.hi
     }
 
+    /// Whether both halves have a number in the column.
+    pub fn can_split(&self, column: usize, at: i64) -> bool
+        requires { IsArea self.now }
+        ensures { IsTrue result ↔ CanSplit self.now column at }
+    {
+        can_split(&self.lo, &self.hi, column, at)
+    }
+
     /// The lower and the higher half, none where not both of them have a number in the column.
-    pub(crate) fn halves(
+    pub fn halves(
         self,
         alloc: Global,
         column: usize,

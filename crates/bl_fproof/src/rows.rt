@@ -121,6 +121,14 @@ impl FollowerRows {
         Ok(problem)
     }
 
+    /// The follower's cost of each of his columns.
+    pub fn cost(&self) -> &[i64]
+        ensures value { result.now ≡ self.now.cost }
+        ensures fits { Fits self.now }
+    {
+        &self.cost
+    }
+
     /// The least number of each of the follower's columns.
     pub fn lo(&self) -> &[i64]
         ensures value { result.now ≡ self.now.area.lo }

@@ -1,0 +1,5 @@
+pub mod Responses
+pub mod Boxes
+pub mod Places
+pub mod Progress
+pub mod Ends

@@ -1,0 +1,4 @@
+pub mod Openings
+pub mod Licences
+pub mod Cutoffs
+pub mod Growth
