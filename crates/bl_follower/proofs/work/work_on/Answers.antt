@@ -34,4 +34,5 @@ returns-in_ok-split_or_leave-in-Stuck c =
     subst (λ x. IsWorked q a u x) c.in-Stuck.is c.in_ok-proof-2.ensures.worked in
     more_by_stuck q c.args.budget c.args.best.now c.relax_down.new.best c.args.tree.now _ a
     c.place_by-place.result.column c.place_by-place.result.at c.cutoff.result c.in-Stuck.why c.requires
-    c.in_ok-proof-2.ensures.best c.place_by-place.ensures licence c.cutoff.ensures c.in_ok-split_or_leave-in-Stuck.ensures
+    c.in_ok-proof-2.ensures.best c.place_by-place.ensures licence c.cutoff.ensures
+    c.in_ok-split_or_leave-in-Stuck.ensures
