@@ -15,6 +15,7 @@ use Rattle.bl_text.specs.Fields.{is_blank, fields_of, IsField, AreRuns}
 use Rattle.bl_text.specs.Lines.{ended, IsLine, lines_of}
 use Rattle.bl_text.proofs.FieldLaws.{are_runs}
 use Rattle.bl_num.specs.Numbers.{read_of}
+use Rattle.bl_num.proofs.DecimalFields.{decimal_field, decimal_line}
 use Rattle.bl_num.proofs.Meanings.{reads_decimals}
 use Rattle.bl_aux.specs.declared.keys.Key.{Key}
 use Rattle.bl_aux.specs.declared.keys.Key.TheVariants.{N, M, Lc, Lr, Lo, Os}
@@ -48,45 +49,13 @@ pub number_lines-ended : (key : Key) (numbers : List ℤ)
 number_lines-ended key [] = refl
 number_lines-ended key (z ∷ zs) = rw (number_line-ended key z, number_lines-ended key zs) refl
 
-eqb-other : (a b : ℕ) → (a ≡ b → ⊥) → eqb a b ≡ false
-eqb-other a b h = grind (arith, nat_tests)
-
-digit-no_blank : (d : ℕ) → IsInRange 48 57 d → is_blank d ≡ false
-digit-no_blank d h =
-    rw (eqb-other d 32 (omega (arith, h.0)), eqb-other d 9 (omega (arith, h.0)), eqb-other d 13 (omega (arith, h.0)))
-    refl
-
-digits-no_blank : (ds : List ℕ) → AllDigits 10 ds → AllByRecursion (λ b. is_blank b ≡ false) ds
-digits-no_blank [] h = tt
-digits-no_blank (d ∷ ds) h = (digit-no_blank d (digit_at (d ∷ ds) 0 h (omega arith)), digits-no_blank ds h.1)
-
-digits-line : (ds : List ℕ) → AllDigits 10 ds → IsLine ds
-digits-line [] h = tt
-digits-line (d ∷ ds) h = let range = digit_at (d ∷ ds) 0 h (omega arith) in
-    (eqb-other d 10 (omega (arith, range.0)), digits-line ds h.1)
-
-digits-field : (ds : List ℕ) → 0 < length ds → AllDigits 10 ds → IsField ds
-digits-field [] some h = absurd (omega arith)
-digits-field (d ∷ ds) some h = digits-no_blank (d ∷ ds) h
-
-number-field : (z : ℤ) → unsigned_abs z ≤ MAX_WHOLE → IsField (signed_decimal z)
-number-field (pos m) le = let n = decimal_is_IsNumeral_wide m (omega (arith, le)) in
-    digits-field (decimal m) n.0.0 n.0.1
-number-field (negsuc m) le = let n = decimal_is_IsNumeral_wide (suc m) (omega (arith, le)) in
-    (refl, digits-no_blank (decimal (suc m)) n.0.1)
-
-number-line : (z : ℤ) → unsigned_abs z ≤ MAX_WHOLE → IsLine (signed_decimal z)
-number-line (pos m) le = let n = decimal_is_IsNumeral_wide m (omega (arith, le)) in digits-line (decimal m) n.0.1
-number-line (negsuc m) le = let n = decimal_is_IsNumeral_wide (suc m) (omega (arith, le)) in
-    (refl, digits-line (decimal (suc m)) n.0.1)
-
 pub line-of : (key : Key) (z : ℤ) → unsigned_abs z ≤ MAX_WHOLE → IsLine (line_of key z)
-line-of N z le = (refl, (refl, number-line z le))
-line-of M z le = (refl, (refl, number-line z le))
-line-of Lc z le = (refl, (refl, (refl, number-line z le)))
-line-of Lr z le = (refl, (refl, (refl, number-line z le)))
-line-of Lo z le = (refl, (refl, (refl, number-line z le)))
-line-of Os z le = (refl, (refl, (refl, number-line z le)))
+line-of N z le = (refl, (refl, decimal_line z le))
+line-of M z le = (refl, (refl, decimal_line z le))
+line-of Lc z le = (refl, (refl, (refl, decimal_line z le)))
+line-of Lr z le = (refl, (refl, (refl, decimal_line z le)))
+line-of Lo z le = (refl, (refl, (refl, decimal_line z le)))
+line-of Os z le = (refl, (refl, (refl, decimal_line z le)))
 
 word-field : (key : Key) → IsField (word_of key)
 word-field N = (refl, tt)
@@ -100,7 +69,7 @@ fields-of : (key : Key) (z : ℤ) → unsigned_abs z ≤ MAX_WHOLE
     → fields_of (line_of key z) ≡ word_of key ∷ signed_decimal z ∷ []
 fields-of key z le =
     are_runs.parted (word_of key) (signed_decimal z) 32 refl
-    ∙ rw (are_runs.run (word_of key) (word-field key), are_runs.run (signed_decimal z) (number-field z le)) refl
+    ∙ rw (are_runs.run (word_of key) (word-field key), are_runs.run (signed_decimal z) (decimal_field z le)) refl
 
 said-word : (key : Key) (text : List ℕ) → said (word_of key ∷ text ∷ []) ≡ numbered key (read_of text)
 unfolding said

@@ -12,11 +12,11 @@ use Rattle.bl_whole.proofs.Products.{one-*ℤ}
 use Rattle.bl_whole.proofs.SumLemmas.{sum_below-agree, sum_below-zero, sum_below_isolate, without, without-other}
 use Rattle.bl_whole.proofs.SumLemmas.{without-same}
 use Rattle.bl_limits.specs.declared.TheConstants.{MAX_PROOF_NUMBER}
-use Rattle.bl_terms.specs.Points.{zeros}
+use Rattle.bl_terms.specs.Points.{zeros, IsOnePoint}
 use Rattle.bl_terms.specs.Bounds.{Problem, IsProblem, linear_at, Multipliers, Proves, reduced_cost, least_product}
 use Rattle.bl_terms.specs.Bounds.{least_term, rhs_sum, dual_bound, target_of}
 use Rattle.bl_terms.proofs.BoundLemmas.{weak_duality, no_cutoff_no_point}
-use Rattle.bl_bound.specs.Plain.{row_alone, cost_alone, NoRowAlone, IsPlainProof, IsOnePoint, CostsLess, IsBetterPoint}
+use Rattle.bl_bound.specs.Plain.{row_alone, cost_alone, NoRowAlone, IsPlainProof, CostsLess, IsBetterPoint}
 use Rattle.bl_bound.specs.Plain.{OnePointClause}
 use Rattle.bl_bound.specs.Sums.{least_value, RowCloses, CostCloses, IsFirstClosing}
 

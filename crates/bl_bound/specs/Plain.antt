@@ -1,8 +1,8 @@
--- Trusted: the proofs that need no search, each of one row alone or of the cost alone, and the points of a box that has
--- but one.
+-- Trusted: the proofs that need no search, each of one row alone or of the cost alone, and what they say of a box that
+-- has but one point.
 use Rattle.std.specs.Prelude.{◌≡◌, ℕ, ◌<◌, ◌⊎◌, ◌↔◌, Option, Some, None, ℤ, pos, ◌<ℤ◌, List, length, slice_set}
 use Rattle.bl_whole.specs.Sums.{component, dot}
-use Rattle.bl_terms.specs.Points.{Area, zeros}
+use Rattle.bl_terms.specs.Points.{IsOnePoint, zeros}
 use Rattle.bl_terms.specs.Bounds.{Problem, IsPoint, Multipliers, Proves}
 
 -- the multiplier 1 for row r and 0 for all others, the cost without weight
@@ -29,10 +29,6 @@ IsPlainProof q u None = NoRowAlone q u × ¬ Proves q u (cost_alone q)
 IsPlainProof q u (Some w) =
     ((r : ℕ) × IsFirstRowAlone q u r × (w ≡ row_alone q r))
     ⊎ (NoRowAlone q u × Proves q u (cost_alone q) × (w ≡ cost_alone q))
-
--- the box has one point
-pub record IsOnePoint (a : Area) : Type 0 where
-  pub fixed : (j : ℕ) → j < length a.lo → component a.lo j ≡ component a.hi j
 
 -- the cost is below the cutoff; without one nothing is asked
 abbrev pub CostsLess : Option ℤ → ℤ → Type 0

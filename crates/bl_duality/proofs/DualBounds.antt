@@ -13,6 +13,7 @@ use Rattle.bl_whole.proofs.SumLemmas.{sum_below-agree, sum_below-add, sum_below-
 use Rattle.bl_terms.specs.Points.{InArea}
 use Rattle.bl_terms.specs.Bounds.{Problem, linear_at, IsProblem, Multipliers, reduced_cost, least_term}
 use Rattle.bl_terms.specs.Bounds.{rhs_sum, dual_bound}
+use Rattle.bl_terms.proofs.BoundLemmas.{weighted}
 use Rattle.bl_duality.proofs.PointValues.{slack, sum_of_differences}
 
 -- the end of column j's range at which its term is least
@@ -50,51 +51,6 @@ least_at_corner q w j h =
     reached_at_end (int_lt (reduced_cost q w j) (pos 0)) (reduced_cost q w j) (component q.area.lo j)
     (component q.area.hi j)
     ∙ ap (λ x. reduced_cost q w j *ℤ x) (sym (corner_component q w j h))
-
--- ---- the weighted cost and rows at a point, column by column
-
-term : (q : Problem) (w : Multipliers) (z : List ℤ) (j : ℕ) → reduced_cost q w j *ℤ component z j
-    ≡ w.den *ℤ (component q.cost j *ℤ component z j)
-    +ℤ sum_below (length q.rows)
-    (λ i. component w.mult i *ℤ (component (linear_at q.rows i).coef j *ℤ component z j))
-term q w z j =
-    let m = length q.rows in
-    let a : ℕ → ℤ = λ i. component w.mult i *ℤ component (linear_at q.rows i).coef j in
-    let parts = +ℤ-*ℤ (w.den *ℤ component q.cost j) (sum_below m a) (component z j) in
-    let cost = *ℤ_assoc w.den (component q.cost j) (component z j) in
-    let turned = *ℤ_comm (sum_below m a) (component z j) in
-    let scaled = sum_below-scale m (component z j) a in
-    let each : sum_below m (λ i. component z j *ℤ a i)
-    ≡ sum_below m (λ i. component w.mult i *ℤ (component (linear_at q.rows i).coef j *ℤ component z j)) =
-    sum_below-agree m (λ i. component z j *ℤ a i)
-    (λ i. component w.mult i *ℤ (component (linear_at q.rows i).coef j *ℤ component z j))
-    (λ i b. *ℤ_comm (component z j) (a i)
-    ∙ *ℤ_assoc (component w.mult i) (component (linear_at q.rows i).coef j) (component z j)) in
-    omega (arith, ints)
-
-weighted : (q : Problem) (w : Multipliers) (z : List ℤ) → IsProblem q
-    → sum_below (length q.area.lo) (λ j. reduced_cost q w j *ℤ component z j)
-    ≡ w.den *ℤ dot q.cost z +ℤ sum_below (length q.rows) (λ i. component w.mult i *ℤ dot (linear_at q.rows i).coef z)
-weighted q w z g =
-    let n = length q.area.lo in
-    let m = length q.rows in
-    let a : ℕ → ℕ → ℤ = λ i j. component w.mult i *ℤ (component (linear_at q.rows i).coef j *ℤ component z j) in
-    let each : sum_below n (λ j. reduced_cost q w j *ℤ component z j)
-    ≡ sum_below n (λ j. w.den *ℤ (component q.cost j *ℤ component z j) +ℤ sum_below m (λ i. a i j)) =
-    sum_below-agree n (λ j. reduced_cost q w j *ℤ component z j)
-    (λ j. w.den *ℤ (component q.cost j *ℤ component z j) +ℤ sum_below m (λ i. a i j)) (λ j b. term q w z j) in
-    let added = sum_below-add n (λ j. w.den *ℤ (component q.cost j *ℤ component z j)) (λ j. sum_below m (λ i. a i j)) in
-    let cost : sum_below n (λ j. w.den *ℤ (component q.cost j *ℤ component z j)) ≡ w.den *ℤ dot q.cost z =
-    rw (← g.cost_columns) (sum_below-scale (length q.cost) w.den (λ j. component q.cost j *ℤ component z j)) in
-    let turned : sum_below n (λ j. sum_below m (λ i. a i j)) ≡ sum_below m (λ i. sum_below n (λ j. a i j)) =
-    sum_below-exchange n m (λ j i. a i j) in
-    let rows : sum_below m (λ i. sum_below n (λ j. a i j))
-    ≡ sum_below m (λ i. component w.mult i *ℤ dot (linear_at q.rows i).coef z) =
-    sum_below-agree m (λ i. sum_below n (λ j. a i j)) (λ i. component w.mult i *ℤ dot (linear_at q.rows i).coef z)
-    (λ i b. let c = g.row_columns i b in
-    rw (← c) (sum_below-scale (length (linear_at q.rows i).coef) (component w.mult i)
-    (λ j. component (linear_at q.rows i).coef j *ℤ component z j))) in
-    omega (arith, ints)
 
 -- the weighted slacks at a point
 abbrev pub slack_sum : Problem → Multipliers → List ℤ → ℤ

@@ -12,19 +12,13 @@ use Rattle.bl_simplex.specs.Rationals.{rational_difference, rational_product, ra
 use Rattle.bl_simplex.specs.Dictionaries.{Dictionary, columns, cost_row}
 use Rattle.bl_tableau.specs.Solutions.{SolvesRow}
 use Rattle.bl_tableau.proofs.Scaling.{IsOver, over, over_is, over_difference, over_product, over_total, over_from_same}
-use Rattle.bl_tableau.proofs.Scaling.{same_from_over}
+use Rattle.bl_tableau.proofs.Scaling.{same_from_over, over_whole, over_itself}
 use Rattle.bl_tableau.proofs.PivotLaw.{ArePositive}
-use Rattle.bl_tableau.proofs.RowEquations.{product_positive}
+use Rattle.bl_tableau.proofs.RowEquations.{product_positive, total_positive}
 
 -- the values of the variables as fractions
 abbrev pub whole_values : (ℕ → ℤ) → ℕ → Fraction
 whole_values v l = whole_fraction (v l)
-
-over_whole : (m : ℕ) (z : ℤ) → IsOver m (whole_fraction z) (z *ℤ pos m)
-over_whole m z = record { scaled = sym (*ℤ_one (z *ℤ pos m)) }
-
-over_itself : (z : ℤ) → IsOver 1 (whole_fraction z) z
-over_itself z = record { scaled = refl }
 
 over_times : (m : ℕ) (f : Fraction) (x z : ℤ) → IsOver m f x
     → IsOver m (rational_product f (whole_fraction z)) (x *ℤ z)
@@ -49,12 +43,6 @@ row_over n m d v g b i each right =
     (over_total m n (λ j. rational_product (d.place i j) (whole_fraction (v (d.column_label j))))
     (λ j. g j *ℤ v (d.column_label j))
     (λ j h. over_times m (d.place i j) (g j) (v (d.column_label j)) (each j h)))
-
-total_positive : (n : ℕ) (f : ℕ → Fraction) → ((j : ℕ) → j < n → 0 < (f j).den) → 0 < (rational_total n f).den
-total_positive zero f h = omega arith
-total_positive (suc n) f h =
-    product_positive (rational_total n f).den (f n).den (total_positive n f (λ j l. h j (omega arith)))
-    (h n (omega arith))
 
 value_positive : (n : ℕ) (d : Dictionary) (v : ℕ → ℤ) (i : ℕ) → ((j : ℕ) → j ≤ n → 0 < (d.place i j).den)
     → 0 < (row_value n d v i).den

@@ -1,5 +1,5 @@
 //! The type of the fractions, and what it is made of.
-ghost use Rattle.std.specs.Prelude.{◌≡◌, ◌↔◌, IsTrue, pos, ◌≤ℤ◌, unsigned_abs};
+ghost use Rattle.std.specs.Prelude.{◌≡◌, ◌↔◌, IsTrue, pos, ◌≤ℤ◌, ◌<ℤ◌, unsigned_abs};
 ghost use Rattle.std.specs.Option.{SomeIff};
 ghost use Rattle.bl_simplex.specs.Fractions.{IsReduced};
 
@@ -47,6 +47,13 @@ pub fn is_whole(a: Frac) -> bool
     ensures { IsTrue result ↔ (a.den ≡ 1) }
 {
     a.den == 1
+}
+
+/// Whether `a` is below 0.
+pub fn is_negative(a: Frac) -> bool
+    ensures { IsTrue result ↔ (a.num <ℤ pos 0) }
+{
+    a.num < 0
 }
 
 /// The numerator and the denominator.

@@ -16,5 +16,5 @@ mod tests;
 
 pub use arithmetic::{add, div, mul, negation, sub};
 pub use divisor::gcd;
-pub use fraction::{Frac, WideFrac, is_whole, parts, reduced, whole};
+pub use fraction::{Frac, WideFrac, is_negative, is_whole, parts, reduced, whole};
 pub use order::{compare, floor};

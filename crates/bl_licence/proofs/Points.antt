@@ -17,32 +17,12 @@ use Rattle.bl_simplex.specs.Rationals.{fraction_at, common_denominator}
 use Rattle.bl_simplex.specs.Dictionaries.{columns, start_at, sign_at}
 use Rattle.bl_simplex.specs.Licences.{moved, rational_dot, IsBelowCutoff, IsFractional}
 use Rattle.bl_frac.proofs.Ratios.{product_positive}
-use Rattle.bl_tableau.proofs.Scaling.{IsOver, over_sum, over_product, over_total}
+use Rattle.bl_tableau.proofs.Scaling.{IsOver, over_sum, over_product, over_total, over_whole, over_multiple}
+use Rattle.bl_tableau.proofs.Scaling.{over_scaled}
+use Rattle.bl_tableau.proofs.RowEquations.{total_positive}
 use Rattle.bl_tableau.specs.Cells.{AreReduced}
 use Rattle.bl_licence.specs.Steps.{scaled_column, IsScaledPoint, IsBetween}
 use Rattle.bl_licence.proofs.Multiples.{common_positive, common_divides, dens_positive}
-
-over_multiple : (m : ℕ) (f : Fraction) → f.den ∣ m → IsOver m f (times_multiple m f)
-over_multiple m f h = record {
-  scaled = ap (λ n. f.num *ℤ pos n) (sym (div-mul_cancel f.den h))
-      ∙ ap (λ z. f.num *ℤ z) (sym (product_of (m / f.den) f.den)) ∙ sym (*ℤ_assoc f.num (pos (m / f.den)) (pos f.den));
-}
-  where
-    product_of : (a b : ℕ) → pos a *ℤ pos b ≡ pos (a * b)
-    product_of a b = pos-*ℤ-pos a b
-
-over_whole : (m : ℕ) (z : ℤ) → IsOver m (whole_fraction z) (z *ℤ pos m)
-over_whole m z = record { scaled = sym (*ℤ_one (z *ℤ pos m)) }
-
-over_itself : (z : ℤ) → IsOver 1 (whole_fraction z) z
-over_itself z = record { scaled = refl }
-
-over_scaled : (m : ℕ) (a : ℤ) (f : Fraction) (z : ℤ) → IsOver m f z
-    → IsOver m (rational_product (whole_fraction a) f) (a *ℤ z)
-over_scaled m a f z h =
-    let e : 1 * m ≡ m = omega arith in
-    subst (λ n. IsOver n (rational_product (whole_fraction a) f) (a *ℤ z)) e
-    (over_product 1 m (whole_fraction a) f a z (over_itself a) h)
 
 -- column j over the common denominator
 column_over : (q : Problem) (m : ℕ) (f : ℕ → Fraction) (j : ℕ) → (f j).den ∣ m
@@ -51,12 +31,6 @@ column_over q m f j h =
     over_sum m (whole_fraction (start_at q j)) (rational_product (whole_fraction (sign_at q j)) (f j))
     (start_at q j *ℤ pos m) (sign_at q j *ℤ times_multiple m (f j))
     (over_whole m (start_at q j)) (over_scaled m (sign_at q j) (f j) (times_multiple m (f j)) (over_multiple m (f j) h))
-
-total_positive : (n : ℕ) (f : ℕ → Fraction) → ((j : ℕ) → j < n → 0 < (f j).den) → 0 < (rational_total n f).den
-total_positive zero f h = omega arith
-total_positive (suc n) f h =
-    product_positive (rational_total n f).den (f n).den (total_positive n f (λ j l. h j (omega arith)))
-    (h n (omega arith))
 
 column_positive : (q : Problem) (f : ℕ → Fraction) (j : ℕ) → 0 < (f j).den → 0 < (moved q f j).den
 column_positive q f j h = omega arith

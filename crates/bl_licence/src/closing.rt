@@ -7,17 +7,9 @@ ghost use Rattle.bl_simplex.specs.Closing.{ClosesByRow, ClosesByCost, Closes, Is
 ghost use Rattle.bl_tableau.specs.Runs.{current};
 ghost use Rattle.bl_licence.specs.Steps.{IsAbove};
 
-use bl_frac::{Frac, compare, parts, reduced};
+use bl_frac::{Frac, compare, is_negative, parts, reduced};
 use bl_tableau::Tableau;
 use std::cmp::Ordering;
-
-/// Whether `x` is negative.
-pub(crate) fn is_negative(x: Frac) -> bool
-    ensures { IsTrue result ↔ (x.num <ℤ pos 0) }
-{
-    let (num, _) = parts(x);
-    num < 0
-}
 
 /// Whether a row has a negative right side and no negative entry.
 fn row_closes(tableau: &Tableau<'_, '_>, row: u32) -> bool

@@ -7,8 +7,7 @@ ghost use Rattle.bl_simplex.specs.Licences.{IsFeasible};
 ghost use Rattle.bl_tableau.specs.Runs.{current};
 ghost use Rattle.bl_licence.specs.Steps.{IsListOf};
 
-use crate::closing::is_negative;
-use bl_frac::{Frac, negation, whole};
+use bl_frac::{Frac, is_negative, negation, whole};
 use bl_tableau::Tableau;
 use std::alloc::{AllocError, Global};
 

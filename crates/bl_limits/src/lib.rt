@@ -69,3 +69,12 @@ pub const DEFAULT_WORKERS: u32 = 4;
 
 /// The upper bound of an integer column that no bound line names.
 pub const DEFAULT_UPPER: i64 = 1;
+
+/// The most entries of a pool.
+pub const MAX_POOL_ENTRIES: u32 = 1_000_000;
+
+/// The most cuts that are made at one node.
+pub const MAX_NEW_CUTS: u32 = 4;
+
+/// Cuts are made at nodes whose number is below this one.
+pub const CUT_NODES: u32 = 500;

@@ -1,5 +1,6 @@
 pub mod Capping
 pub mod Decimals
+pub mod DecimalFields
 pub mod Magnitudes
 pub mod Moves
 pub mod Meanings

@@ -9,7 +9,7 @@ use Rattle.bl_whole.proofs.WithinLemmas.{within_entry, within_high, within_low, 
 use Rattle.bl_terms.specs.Points.{InArea}
 use Rattle.bl_terms.specs.Bounds.{Problem, Fits}
 
-inside_within : (q : Problem) (z : List ℤ) → Fits q → InArea q.area z → AreWithin MAX_NUMBER z
+pub inside_within : (q : Problem) (z : List ℤ) → Fits q → InArea q.area z → AreWithin MAX_NUMBER z
 inside_within q z f inside = record {
   each = λ k l.
       let e = inside.columns in

@@ -9,10 +9,9 @@ ghost use Rattle.bl_licence.specs.Steps.{MayPivot};
 ghost use Rattle.bl_relax.specs.Choices.{AreDistinct, IsRatioOf, IsWinner, HasNoCandidate};
 
 use crate::distance::squared_distance;
-use bl_frac::{Frac, compare, div, parts};
+use bl_frac::{Frac, div, is_negative};
 use bl_licence::closes;
-use bl_tableau::Tableau;
-use std::cmp::Ordering;
+use bl_tableau::{Tableau, wins_ratio_test};
 
 /// A column with a negative entry, and what the ratio test asks of it.
 #[derive(Clone, Copy, Debug)]
@@ -20,13 +19,6 @@ pub(crate) struct Candidate {
     pub(crate) column: u32,
     pub(crate) label: u32,
     pub(crate) ratio: Frac,
-}
-
-fn is_negative(x: Frac) -> bool
-    ensures { IsTrue result ↔ (x.num <ℤ pos 0) }
-{
-    let (num, _) = parts(x);
-    num < 0
 }
 
 /// The leaving row: of those with a negative right side the one that is farthest from being met.
@@ -75,25 +67,13 @@ fn candidate_at(tableau: &Tableau<'_, '_>, row: u32, column: u32) -> Option<Cand
     }
 }
 
-/// Whether one candidate goes before another, by the ratio test and Bland's rule.
-fn wins_ratio_test(candidate: &Candidate, other: &Candidate) -> bool
-    ensures { IsTrue result
-        ↔ WinsRatioTest candidate.now.label other.now.label candidate.now.ratio other.now.ratio }
-{
-    match compare(candidate.ratio, other.ratio) {
-        Ordering::Less => true,
-        Ordering::Equal => candidate.label < other.label,
-        Ordering::Greater => false,
-    }
-}
-
 /// The candidate that goes before the other.
 fn winner(best: Option<Candidate>, next: Candidate) -> Candidate
     ensures { IsWinner best next result }
 {
     match best {
         Some(best) => {
-            if wins_ratio_test(&next, &best) {
+            if wins_ratio_test(next.label, best.label, next.ratio, best.ratio) {
                 next
             } else {
                 best

@@ -36,7 +36,7 @@ row_total n d x i m = sum_below n (λ j. over m (d.place i j) *ℤ over m (x (d.
 abbrev pub RowEquation : ℕ → Dictionary → (ℕ → Fraction) → ℕ → ℕ → Type 0
 RowEquation n d x i m = over m (x (d.row_label i)) *ℤ pos m ≡ over m (d.place i n) *ℤ pos m -ℤ row_total n d x i m
 
-total_positive : (n : ℕ) (f : ℕ → Fraction) → ((j : ℕ) → j < n → 0 < (f j).den) → 0 < (rational_total n f).den
+pub total_positive : (n : ℕ) (f : ℕ → Fraction) → ((j : ℕ) → j < n → 0 < (f j).den) → 0 < (rational_total n f).den
 total_positive zero f h = omega arith
 total_positive (suc n) f h =
     product_positive (rational_total n f).den (f n).den (total_positive n f (λ j l. h j (omega arith)))

@@ -4,16 +4,16 @@ use Rattle.std.proofs.Common.{◌<ℤ◌, inl, inr, refl, sym, ap, ◌∙◌, su
 use Rattle.std.specs.Int.{◌∣◌}
 use Rattle.std.proofs.Math.Nat.{div-mul_cancel, mul-lt-mul_of_pos_right, dvd-mul_left, dvd-mul_right_of_dvd}
 use Rattle.std.proofs.lemmas.Bool.{cases_eq}
-use Rattle.std.proofs.Math.IntN.{*ℤ_comm}
+use Rattle.std.proofs.Math.IntN.{*ℤ_comm, pos-*ℤ-pos}
 use Rattle.std.proofs.lemmas.Int.{ints}
 use Rattle.bl_whole.specs.Sums.{sum_below}
 use Rattle.bl_whole.specs.Identities.{variable, constant, plus, minus, times}
 use Rattle.bl_whole.proofs.IdentityLemmas.{identity}
-use Rattle.bl_whole.proofs.Products.{*ℤ_assoc, neg_ℤ-*ℤ, *ℤ-neg_ℤ, le_of_mul_le}
+use Rattle.bl_whole.proofs.Products.{*ℤ_assoc, *ℤ_one, neg_ℤ-*ℤ, *ℤ-neg_ℤ, le_of_mul_le}
 use Rattle.bl_frac.proofs.WholeLaws.{neg-neg}
 use Rattle.bl_simplex.specs.Fractions.{Fraction, negated, whole_fraction}
 use Rattle.bl_simplex.specs.Rationals.{rational_sum, rational_difference, rational_product, rational_total}
-use Rattle.bl_simplex.specs.Rationals.{SameRational}
+use Rattle.bl_simplex.specs.Rationals.{SameRational, times_multiple}
 
 -- f is z / m
 pub record IsOver (m : ℕ) (f : Fraction) (z : ℤ) : Type 0 where
@@ -109,6 +109,26 @@ over_total m zero f z h = over_nought m
 over_total m (suc n) f z h =
     over_sum m (rational_total n f) (f n) (sum_below n z) (z n) (over_total m n f z (λ j l. h j (omega arith)))
     (h n (omega arith))
+
+-- a whole number over m, a fraction over a multiple of its denominator, and a fraction times a whole number
+pub over_whole : (m : ℕ) (z : ℤ) → IsOver m (whole_fraction z) (z *ℤ pos m)
+over_whole m z = record { scaled = sym (*ℤ_one (z *ℤ pos m)) }
+
+pub over_itself : (z : ℤ) → IsOver 1 (whole_fraction z) z
+over_itself z = record { scaled = refl }
+
+pub over_multiple : (m : ℕ) (f : Fraction) → f.den ∣ m → IsOver m f (times_multiple m f)
+over_multiple m f h = record {
+  scaled = ap (λ n. f.num *ℤ pos n) (sym (div-mul_cancel f.den h))
+      ∙ ap (λ z. f.num *ℤ z) (sym (pos-*ℤ-pos (m / f.den) f.den)) ∙ sym (*ℤ_assoc f.num (pos (m / f.den)) (pos f.den));
+}
+
+pub over_scaled : (m : ℕ) (a : ℤ) (f : Fraction) (z : ℤ) → IsOver m f z
+    → IsOver m (rational_product (whole_fraction a) f) (a *ℤ z)
+over_scaled m a f z h =
+    let e : 1 * m ≡ m = omega arith in
+    subst (λ n. IsOver n (rational_product (whole_fraction a) f) (a *ℤ z)) e
+    (over_product 1 m (whole_fraction a) f a z (over_itself a) h)
 
 -- a positive factor may be left out
 pub cancel : (x y : ℤ) (k : ℕ) → 0 < k → x *ℤ pos k ≡ y *ℤ pos k → x ≡ y

@@ -1,4 +1,4 @@
--- What it means that rational values solve a dictionary, and the law of the replay.
+-- Trusted. What it means that rational values solve a dictionary, and the law of the replay.
 use Rattle.std.specs.Prelude.{ℕ, ◌<◌, ◌≤◌, ◌↔◌, List, length}
 use Rattle.bl_terms.specs.Bounds.{Problem}
 use Rattle.bl_simplex.specs.Fractions.{Fraction}

@@ -4,18 +4,11 @@ ghost use Rattle.bl_simplex.specs.Fractions.{quotient_of};
 ghost use Rattle.bl_simplex.specs.Rationals.{fraction_at};
 ghost use Rattle.bl_simplex.specs.LegalPivots.{ratio_of, IsCandidate, WinsRatioTest, LosesRatioTest, IsEntering};
 
-use bl_frac::{Frac, compare, div, parts};
+use bl_frac::{Frac, compare, div, is_negative};
 use std::cmp::Ordering;
 
-/// Whether `x` is negative.
-pub(crate) fn is_negative(x: Frac) -> bool
-    ensures { IsTrue result ↔ (x.num <ℤ pos 0) }
-{
-    let (num, _) = parts(x);
-    num < 0
-}
-
-fn wins_ratio_test(label: u32, other_label: u32, ratio: Frac, other: Frac) -> bool
+/// Whether a column with this label and ratio goes before another, by the ratio test and Bland's rule.
+pub fn wins_ratio_test(label: u32, other_label: u32, ratio: Frac, other: Frac) -> bool
     ensures { IsTrue result ↔ WinsRatioTest label other_label ratio other }
 {
     match compare(ratio, other) {

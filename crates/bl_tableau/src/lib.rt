@@ -10,4 +10,5 @@ mod tableau;
 #[cfg(test)]
 mod tests;
 
+pub use legal::wins_ratio_test;
 pub use tableau::{Tableau, Wide};

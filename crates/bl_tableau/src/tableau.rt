@@ -10,11 +10,11 @@ ghost use Rattle.bl_simplex.specs.Pivots.{AllNarrow, EndsWide, FailsFirstAt, IsN
 ghost use Rattle.bl_simplex.specs.LegalPivots.{IsLegal};
 ghost use Rattle.bl_tableau.specs.Runs.{current};
 
-use crate::legal::{is_entering, is_negative};
+use crate::legal::is_entering;
 use crate::opening::{numbers, opening_cells};
 use crate::rows::{Place, pivot_rows};
 use bl_bound::Problem;
-use bl_frac::Frac;
+use bl_frac::{Frac, is_negative};
 use std::alloc::{AllocError, Global};
 use std::marker::Model;
 

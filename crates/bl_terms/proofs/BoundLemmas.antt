@@ -33,7 +33,7 @@ pub least_product_is_least : LeastProduct
 least_product_is_least a lo hi h = (least_of_range a lo hi, reached_in_range a lo hi h)
 
 -- one column's term: the weight's parts are multiplied by the column's number one by one
-term : (q : Problem) (w : Multipliers) (z : List ℤ) (j : ℕ) → reduced_cost q w j *ℤ component z j
+pub term : (q : Problem) (w : Multipliers) (z : List ℤ) (j : ℕ) → reduced_cost q w j *ℤ component z j
     ≡ w.den *ℤ (component q.cost j *ℤ component z j)
     +ℤ sum_below (length q.rows)
     (λ i. component w.mult i *ℤ (component (linear_at q.rows i).coef j *ℤ component z j))
@@ -53,7 +53,7 @@ term q w z j =
     omega (arith, ints)
 
 -- the weighted rows and the weighted cost at z, column by column
-weighted : (q : Problem) (w : Multipliers) (z : List ℤ) → IsProblem q
+pub weighted : (q : Problem) (w : Multipliers) (z : List ℤ) → IsProblem q
     → sum_below (length q.area.lo) (λ j. reduced_cost q w j *ℤ component z j)
     ≡ w.den *ℤ dot q.cost z +ℤ sum_below (length q.rows) (λ i. component w.mult i *ℤ dot (linear_at q.rows i).coef z)
 weighted q w z g =

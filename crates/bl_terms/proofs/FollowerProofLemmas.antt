@@ -51,7 +51,7 @@ row_of_follower p l P (r ∷ rs) h = by (λ others. row_of_follower p l P rs oth
     by rest false e h zero b low = absurd (let x = rw e at low in false≢true x)
     by rest false e h (suc i) b low = rest h i (omega arith) low
 
-follower_box-area : (p : Program) → IsProgram p → IsArea (follower_box p)
+pub follower_box-area : (p : Program) → IsProgram p → IsArea (follower_box p)
 follower_box-area p g = record {
   sides = length-map p.follower (λ k. component p.hi k) ∙ sym (length-map p.follower (λ k. component p.lo k));
   ordered = λ j b.
@@ -62,7 +62,7 @@ follower_box-area p g = record {
 }
 
 -- a response lies in the follower's box
-response_in_box : (p : Program) (l y : List ℤ) → IsResponse p l y → InArea (follower_box p) y
+pub response_in_box : (p : Program) (l y : List ℤ) → IsResponse p l y → InArea (follower_box p) y
 response_in_box p l y r = record {
   columns = r.ranges.count ∙ sym (length-map p.follower (λ k. component p.lo k));
   least = λ j b. let b' : j < length p.follower = rw length-map at b in

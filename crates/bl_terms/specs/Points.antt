@@ -1,6 +1,6 @@
 -- Trusted. Points and boxes: a point is a list of whole numbers, one for each column of an integer program.
 use Rattle.std.specs.Prelude.{ℕ, zero, suc, ℤ, pos, Bool, false, ◌||◌, [], ◌∷◌, nat_eq, ◌≡◌, ◌<◌, ◌≤ℤ◌, List, length}
-use Rattle.std.specs.Prelude.{map, refl}
+use Rattle.std.specs.Prelude.{map, refl, slice_index}
 use Rattle.std.specs.Coded.{Coded, code_by, coded×, coded_list, coded_ℤ}
 use Rattle.bl_whole.specs.Sums.{component, dot}
 
@@ -40,6 +40,14 @@ pub record IsWithinArea (a outer : Area) : Type 0 where
   pub columns : length a.lo ≡ length outer.lo
   pub least : (k : ℕ) → k < length outer.lo → component outer.lo k ≤ℤ component a.lo k
   pub most : (k : ℕ) → k < length outer.lo → component a.hi k ≤ℤ component outer.hi k
+
+-- the box has one point
+pub record IsOnePoint (a : Area) : Type 0 where
+  pub fixed : (j : ℕ) → j < length a.lo → component a.lo j ≡ component a.hi j
+
+-- the box leaves one number to each of these columns
+pub record Fixes (a : Area) (ks : List ℕ) : Type 0 where
+  pub fixed : (j : ℕ) → j < length ks → component a.lo (slice_index ks j) ≡ component a.hi (slice_index ks j)
 
 -- z meets the inequality
 pub record Meets (r : Linear) (z : List ℤ) : Type 0 where

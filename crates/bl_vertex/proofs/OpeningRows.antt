@@ -21,7 +21,8 @@ use Rattle.bl_simplex.specs.Dictionaries.{columns, cost_row, descends, start_at,
 use Rattle.bl_simplex.specs.Dictionaries.{opening}
 use Rattle.bl_tableau.specs.Solutions.{SolvesRow}
 use Rattle.bl_tableau.proofs.Scaling.{IsOver, over_difference, over_product, over_total, over_same}
-use Rattle.bl_tableau.proofs.RowEquations.{product_positive}
+use Rattle.bl_tableau.proofs.Scaling.{over_whole, over_multiple, over_scaled}
+use Rattle.bl_tableau.proofs.RowEquations.{product_positive, total_positive}
 use Rattle.bl_tableau.proofs.OpeningSteps.{entry_of_row, right_of_row, entry_of_range, right_of_range, entry_of_cost}
 use Rattle.bl_tableau.proofs.OpeningSteps.{right_of_cost}
 use Rattle.bl_tableau.proofs.RowSteps.{test_same, test_other}
@@ -30,29 +31,6 @@ use Rattle.bl_licence.proofs.Points.{at_most_over}
 use Rattle.bl_duality.proofs.Regroup.{sum_of_one}
 
 -- ---- fractions over a common multiple
-
-over_multiple : (m : ℕ) (f : Fraction) → f.den ∣ m → IsOver m f (times_multiple m f)
-over_multiple m f h = record {
-  scaled = ap (λ n. f.num *ℤ pos n) (sym (div-mul_cancel f.den h))
-      ∙ ap (λ z. f.num *ℤ z) (sym (pos-*ℤ-pos (m / f.den) f.den)) ∙ sym (*ℤ_assoc f.num (pos (m / f.den)) (pos f.den));
-}
-
-over_whole : (m : ℕ) (z : ℤ) → IsOver m (whole_fraction z) (z *ℤ pos m)
-over_whole m z = record { scaled = sym (*ℤ_one (z *ℤ pos m)) }
-
-over_scaled : (m : ℕ) (a : ℤ) (f : Fraction) (z : ℤ) → IsOver m f z
-    → IsOver m (rational_product (whole_fraction a) f) (a *ℤ z)
-over_scaled m a f z h =
-    let e : 1 * m ≡ m = omega arith in
-    let one : IsOver 1 (whole_fraction a) a = record { scaled = refl } in
-    subst (λ n. IsOver n (rational_product (whole_fraction a) f) (a *ℤ z)) e
-    (over_product 1 m (whole_fraction a) f a z one h)
-
-total_positive : (n : ℕ) (f : ℕ → Fraction) → ((j : ℕ) → j < n → 0 < (f j).den) → 0 < (rational_total n f).den
-total_positive zero f h = omega arith
-total_positive (suc n) f h =
-    product_positive (rational_total n f).den (f n).den (total_positive n f (λ j l. h j (omega arith)))
-    (h n (omega arith))
 
 -- ---- coefficients at columns that are moved from their starts
 
