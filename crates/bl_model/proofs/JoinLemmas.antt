@@ -1,6 +1,6 @@
 -- What `build` puts together is the program.
 use Rattle.std.proofs.Common.{◌≡◌, ℕ, ◌<◌, Bool, false, List, [], ◌∷◌, length, map, refl, arith}
-use Rattle.std.specs.Prelude.{ℤ, pos, All, slice_index_or, ◌*ℤ◌}
+use Rattle.std.specs.Prelude.{ℤ, All, slice_index_or, ◌*ℤ◌}
 use Rattle.std.specs.List.{range_with_len, zip, AllByRecursion}
 use Rattle.std.proofs.lemmas.List.Elements.{recursion_from_All, All-from_recursion}
 use Rattle.std.proofs.lemmas.List.FromFn.{length-map-range_with_len, get_or-map-range_with_len}

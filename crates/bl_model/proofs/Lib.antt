@@ -3,3 +3,4 @@ pub mod BuildLemmas
 pub mod ProgramLemmas
 pub mod JoinLemmas
 pub mod PointLemmas
+pub mod BoxLemmas

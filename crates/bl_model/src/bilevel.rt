@@ -1,7 +1,8 @@
 //! The bilevel program.
 
-use crate::points::{dot, in_sense, lies_in, meets_all, meets_marked};
+use crate::points::{dot, in_sense, lies_in, meets_all, meets_marked, numbers_at};
 use crate::row::BRow;
+use std::alloc::{AllocError, Global};
 use std::marker::Model;
 
 /// A bilevel program: the leader minimises `cost` and the follower `follower_cost` over integer
@@ -35,8 +36,10 @@ impl Model for Bilevel {
 }
 
 impl Bilevel {
-    ghost use Rattle.std.specs.Prelude.{◌≡◌, ◌↔◌, IsTrue};
+    ghost use Rattle.std.specs.Prelude.{◌≡◌, ◌↔◌, IsTrue, IfOk};
     ghost use Rattle.bl_terms.specs.Programs.{InBox, MeetsRows, MeetsLowerRows, cost_at, value_at, follower_at};
+    ghost use Rattle.bl_terms.specs.Programs.{link_of};
+    ghost use Rattle.bl_terms.specs.Responses.{IsLink};
     ghost use Rattle.bl_model.specs.View.{IsModel};
 
     /// The least number of each column.
@@ -157,5 +160,14 @@ impl Bilevel {
         ensures { result ≡ follower_at self.now z.now }
     {
         dot(&self.follower_cost, z)
+    }
+
+    /// The values of a point of the box on the linking columns, in their order.
+    pub fn link_of(&self, alloc: Global, z: &[i64]) -> Result<Vec<i64>, AllocError>
+        requires { InBox self.now z.now }
+        ensures value { IfOk result (λ l. l.items ≡ link_of self.now z.now) }
+        ensures link { IfOk result (λ l. IsLink self.now l.items) }
+    {
+        numbers_at(alloc, z, &self.links)
     }
 }

@@ -1,16 +1,17 @@
 //! Points against rows and ranges. Sums stay below 2^54: `MAX_COLUMNS` products of two numbers of
 //! magnitude at most `MAX_NUMBER`.
 
-ghost use Rattle.std.specs.Prelude.{◌≡◌, ◌↔◌, ◌≤◌, ◌*◌, ◌*ℤ◌, length, IsTrue};
+ghost use Rattle.std.specs.Prelude.{◌≡◌, ◌↔◌, ◌<◌, ◌≤◌, ◌*◌, ◌*ℤ◌, length, All, IsTrue, IfOk};
 ghost use Rattle.bl_whole.specs.Sums.{dot};
 ghost use Rattle.bl_limits.specs.declared.TheConstants.{MAX_COLUMNS, MAX_NUMBER};
 ghost use Rattle.bl_whole.specs.Within.{IsWithin, AreWithin};
-ghost use Rattle.bl_terms.specs.Points.{InArea, Meets};
+ghost use Rattle.bl_terms.specs.Points.{InArea, Meets, values_at};
 ghost use Rattle.bl_terms.specs.Programs.{inequality, IsSense};
 ghost use Rattle.bl_model.specs.Points.{MeetsAll, MeetsMarked, AreShort, IsShort};
 
 use crate::row::BRow;
 use bl_whole::int64::plus_product;
+use std::alloc::{AllocError, Global};
 
 /// The sum of the products at each place.
 pub(crate) fn dot(coef: &[i64], z: &[i64]) -> i64
@@ -89,4 +90,16 @@ pub(crate) fn meets_marked(rows: &[BRow], z: &[i64]) -> bool
         }
     }
     true
+}
+
+/// The numbers of the point in these columns, in their order.
+pub(crate) fn numbers_at(alloc: Global, z: &[i64], columns: &[u32]) -> Result<Vec<i64>, AllocError>
+    requires { All (λ k. k < length z.now) columns.now }
+    ensures { IfOk result (λ v. v.items ≡ values_at z.now columns.now) }
+{
+    let mut numbers = Vec::with_capacity(alloc, columns.len())?;
+    for column in columns {
+        numbers.push(z[*column as usize])?;
+    }
+    Ok(numbers)
 }

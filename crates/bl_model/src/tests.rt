@@ -5,6 +5,7 @@ ghost use Rattle.bl_raw.specs.Raw.{IsRawModel, FitsModel, IsRow, IsColumn, IsSma
 
 use super::*;
 use std::alloc::Global;
+use std::sync::Arc;
 use std::test::Fail;
 
 /// What is expected of a row: its coefficients, its right side, and whether it is the follower's.
@@ -189,5 +190,96 @@ fn tests_points_at_both_sides(rt: HostRuntime) -> Result<(), Fail> {
     for (z, want) in points {
         assert_eq!(rt; tested(&model, &z), want, "{z:?}");
     }
+    Ok(())
+}
+
+/// Whether the box has these ranges.
+fn has_ranges(area: &Box2, lo: &[i64], hi: &[i64]) -> bool {
+    area.lo() == lo && area.hi() == hi
+}
+
+/// The two halves, none where the place doesn't split the column.
+fn split(
+    alloc: Global,
+    parent: Arc<Box2, Global>,
+    column: u32,
+    at: i64,
+) -> Result<Option<Halves>, Fail> {
+    let place = column as usize;
+    if place >= parent.lo().len() || at < parent.lo()[place] || parent.hi()[place] <= at {
+        return Ok(None);
+    }
+    Ok(Some(Halves::make(alloc, parent, column, at)?))
+}
+
+/// The half of a model's box that has 0 alone in the column.
+fn zero_half(alloc: Global, model: &Bilevel, column: u32) -> Result<Arc<Box2, Global>, Fail> {
+    let root = Arc::new(alloc, Box2::root(alloc, model)?)?;
+    match split(alloc, root.clone()?, column, 0)? {
+        Some(halves) => Ok(halves.low().clone()?),
+        None => Ok(root),
+    }
+}
+
+/// Whether the box fixes both columns, none where one isn't there.
+fn fixes_both(area: &Box2, first: u32, second: u32) -> Option<bool> {
+    let count = area.lo().len();
+    if first as usize >= count || second as usize >= count {
+        return None;
+    }
+    Some(area.fixes(&[first, second]))
+}
+
+/// The link of a point, none where it isn't in the box.
+fn linked(alloc: Global, model: &Bilevel, z: &[i64]) -> Result<Option<Vec<i64>>, Fail> {
+    if !model.in_box(z) {
+        return Ok(None);
+    }
+    Ok(Some(model.link_of(alloc, z)?))
+}
+
+#[test]
+fn splits_a_box(rt: HostRuntime) -> Result<(), Fail> {
+    let alloc = rt.alloc();
+    let root = Arc::new(alloc, Box2::root(alloc, &follower_rows(alloc)?)?)?;
+    assert!(rt; has_ranges(&root, &[0, 0], &[10, 10]));
+    assert!(rt; split(alloc, root.clone()?, 0, 10)?.is_none());
+    match split(alloc, root.clone()?, 0, 4)? {
+        Some(halves) => {
+            assert!(rt; halves.parent().is_same(&root));
+            assert!(rt; has_ranges(halves.low(), &[0, 0], &[4, 10]));
+            assert!(rt; has_ranges(halves.high(), &[5, 0], &[10, 10]));
+            assert_eq!(rt; (halves.column(), halves.at()), (0, 4));
+            assert!(rt; halves.high().within(&root) && !root.within(halves.high()));
+        }
+        None => assert!(rt; false),
+    }
+    Ok(())
+}
+
+#[test]
+fn tests_boxes(rt: HostRuntime) -> Result<(), Fail> {
+    let alloc = rt.alloc();
+    let half = zero_half(alloc, &follower_rows(alloc)?, 0)?;
+    assert!(rt; half.contains(&[0, 10]) && !half.contains(&[1, 10]) && !half.contains(&[0]));
+    assert_eq!(rt; fixes_both(&half, 0, 0), Some(true));
+    assert_eq!(rt; fixes_both(&half, 0, 1), Some(false));
+    assert!(rt; !half.single());
+    match split(alloc, half, 1, 0)? {
+        Some(halves) => assert!(rt; halves.low().single() && !halves.high().single()),
+        None => assert!(rt; false),
+    }
+    Ok(())
+}
+
+#[test]
+fn links_and_equality(rt: HostRuntime) -> Result<(), Fail> {
+    let alloc = rt.alloc();
+    let (model, other) = (follower_rows(alloc)?, two_sides(alloc)?);
+    // X links in the first model, and Y in the other.
+    assert_eq!(rt; linked(alloc, &model, &[2, 4])?, Some(vec![in alloc; 2]?));
+    assert_eq!(rt; linked(alloc, &other, &[2, 4])?, Some(vec![in alloc; 4]?));
+    assert!(rt; linked(alloc, &model, &[11, 0])?.is_none());
+    assert!(rt; same(&model, &follower_rows(alloc)?) && !same(&model, &other));
     Ok(())
 }

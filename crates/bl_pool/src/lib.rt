@@ -6,12 +6,10 @@
 mod fail;
 mod kept;
 pub mod laws;
-mod models;
 mod pool;
 #[cfg(test)]
 mod tests;
 
 pub use fail::PutFail;
 pub use kept::Kept;
-pub use models::same;
 pub use pool::Pool;

@@ -8,9 +8,8 @@ ghost use Rattle.bl_pool.specs.Puts.{IsPut};
 
 use crate::fail::PutFail;
 use crate::kept::Kept;
-use crate::models::same;
 use bl_fproof::Entry;
-use bl_model::Bilevel;
+use bl_model::{Bilevel, same};
 use indexmap::IndexMap;
 use std::alloc::{AllocError, Global};
 use std::marker::Model;
@@ -49,6 +48,14 @@ impl Pool {
             most,
             entries: IndexMap::new(alloc),
         })
+    }
+
+    /// The model that its entries are of.
+    pub fn model(&self) -> &Arc<Bilevel, Global>
+        ensures value { arc_value result.now ≡ self.now.program }
+        ensures pool { IsPool self.now }
+    {
+        &self.model
     }
 
     /// The entry of the link, none where there is none.

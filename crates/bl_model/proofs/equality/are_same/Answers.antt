@@ -1,5 +1,5 @@
 use Rattle.std.specs.Cmp.Rules.{signed_items}
-use Rattle.bl_pool.proofs.models.are_same.Goals as goal
+use Rattle.bl_model.proofs.equality.are_same.Goals as goal
 
 pub returns : goal.returns
 returns c = rw (c.eq.ensures) (signed_items _ _)

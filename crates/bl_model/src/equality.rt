@@ -1,8 +1,9 @@
 //! Equality of models.
 ghost use Rattle.std.specs.Prelude.{◌≡◌, ◌↔◌, IsTrue};
-ghost use Rattle.bl_pool.specs.Same.{HaveSameCosts};
+ghost use Rattle.bl_model.specs.Same.{HaveSameCosts};
 
-use bl_model::{BRow, Bilevel};
+use crate::bilevel::Bilevel;
+use crate::row::BRow;
 
 /// Whether two models are the same in each part.
 pub fn same(model: &Bilevel, other: &Bilevel) -> bool
@@ -61,7 +62,7 @@ fn is_same_row(row: &BRow, other: &BRow) -> bool
 }
 
 /// Whether two lists have the same numbers.
-fn are_same(numbers: &[i64], others: &[i64]) -> bool
+pub(crate) fn are_same(numbers: &[i64], others: &[i64]) -> bool
     ensures { IsTrue result ↔ (numbers.now ≡ others.now) }
 {
     numbers == others

@@ -1,5 +1,5 @@
 use Rattle.std.proofs.Common.{◌≡◌, take}
-use Rattle.bl_pool.proofs.models.are_same_rows.Given as goal
+use Rattle.bl_model.proofs.equality.are_same_rows.Given as goal
 
 abbrev pub invariant-loop-i : goal.invariant-loop-i
 invariant-loop-i l = take l.i l.rows ≡ take l.i l.others
