@@ -4,9 +4,9 @@ use Rattle.std.specs.Prelude.{ℤ, Option, Some, None}
 use Rattle.std.specs.Option.{IsSome}
 use Rattle.std.proofs.lemmas.Int.{ints}
 use Rattle.bl_whole.specs.Sums.{dot}
-use Rattle.bl_terms.specs.Points.{Area}
+use Rattle.bl_terms.specs.Points.{Area, IsOnePoint}
 use Rattle.bl_terms.specs.Bounds.{Problem, Multipliers, Proves, over}
-use Rattle.bl_bound.specs.Plain.{IsPlainProof, IsOnePoint, OnePointClause}
+use Rattle.bl_bound.specs.Plain.{IsPlainProof, OnePointClause}
 use Rattle.bl_relax.specs.declared.relaxed.Relaxed.{Relaxed}
 use Rattle.bl_relax.specs.Relaxed.{IsRelaxed}
 use Rattle.bl_follower.specs.declared.response.Response.{Response}

@@ -4,10 +4,9 @@ use Rattle.std.specs.Prelude.{ℤ, Option, Some, None, reverse}
 use Rattle.std.proofs.lemmas.Bool.{false≢true}
 use Rattle.std.proofs.lemmas.Int.{ints}
 use Rattle.std.proofs.lemmas.List.{length-append, length-reverse}
-use Rattle.bl_terms.specs.Points.{Area}
+use Rattle.bl_terms.specs.Points.{Area, IsOnePoint}
 use Rattle.bl_terms.specs.Bounds.{Problem, Multipliers, Proves, over}
 use Rattle.bl_terms.specs.Trees.{CanSplit, low_half, high_half}
-use Rattle.bl_bound.specs.Plain.{IsOnePoint}
 use Rattle.bl_licence.specs.declared.why.Why.{Why}
 use Rattle.bl_licence.specs.Why.{IsLicence}
 use Rattle.bl_fproof.proofs.Walks.{top_first}

@@ -12,23 +12,13 @@ use Rattle.bl_terms.specs.Bounds.{Problem, Fits, IsPoint, over}
 use Rattle.bl_terms.proofs.PointLemmas.{point_of_part}
 use Rattle.bl_terms.proofs.TestLemmas.{pos-unsigned_abs}
 use Rattle.bl_bound.specs.Plain.{IsBetterPoint, CostsLess}
+use Rattle.bl_point.proofs.Inside.{inside_within}
 use Rattle.bl_fproof.specs.Entries.{IsPointOfCost}
 use Rattle.bl_fproof.specs.Stacks.{IsPart}
 use Rattle.bl_follower_tree.specs.Growth.{IsLowered}
 use Rattle.bl_follower_tree.specs.Licences.{IsReached}
 use Rattle.bl_follower.specs.declared.response.Response.{Response}
 use Rattle.bl_follower.specs.Search.{cutoff_of, IsBestSoFar, IsLowerBest, height}
-
-inside_within : (q : Problem) (z : List ℤ) → Fits q → InArea q.area z → AreWithin MAX_NUMBER z
-inside_within q z f inside = record {
-  each = λ k l.
-      let e = inside.columns in
-      let least = inside.least k (omega arith) in
-      let most = inside.most k (omega arith) in
-      let low = within_low (within_entry f.lower_bounds k) in
-      let high = within_high (within_entry f.upper_bounds k) in
-      within_from_bounds MAX_NUMBER (component z k) (omega (arith, ints)) (omega (arith, ints));
-}
 
 -- the cost of a point fits 64 bits
 pub cost_fits : (q : Problem) (z : List ℤ) → Fits q → InArea q.area z → FitsSigned w64 (dot q.cost z)

@@ -2,20 +2,20 @@
 ghost use Rattle.std.specs.Prelude.{◌≡◌, ◌+◌, ◌≤◌, ◌∷◌, length, reverse, IfOk};
 ghost use Rattle.bl_limits.specs.declared.TheConstants.{MAX_NUMBER};
 ghost use Rattle.bl_whole.specs.Within.{AreWithin};
-ghost use Rattle.bl_terms.specs.Points.{IsArea};
+ghost use Rattle.bl_terms.specs.Points.{IsArea, IsOnePoint};
 ghost use Rattle.bl_terms.specs.Trees.{CanSplit};
 ghost use Rattle.bl_terms.specs.Bounds.{Proves, over};
-ghost use Rattle.bl_bound.specs.Plain.{IsOnePoint};
 ghost use Rattle.bl_fproof.specs.Stacks.{IsPart};
 ghost use Rattle.bl_follower.specs.Search.{cutoff_of, IsBestSoFar, IsLowerBest, IsWorked, IsUnderWay};
 ghost use Rattle.bl_follower.specs.Search.{IsSplitOrLeft, IsOneMore};
 
-use crate::place::{Place, place_by, widest};
+use crate::place::place_by;
 use crate::response::{Response, cutoff, response_at};
 use bl_bound::{Proof, plain_close};
 use bl_follower_tree::GrowingTree;
 use bl_fproof::{FollowerRows, Part};
 use bl_licence::Why;
+use bl_place::{Place, widest};
 use bl_raw::Listed;
 use bl_relax::{Relaxed, relax};
 use std::alloc::{AllocError, Global};
@@ -112,7 +112,7 @@ pub(crate) fn work_on(
     requires { IsUnderWay rows.now budget best.old tree.old (part ∷ reverse tree.old.stack) }
     ensures { IfOk result (λ _. IsOneMore rows.now budget best.new tree.old tree.new) }
 {
-    let Some(widest) = widest(&part) else {
+    let Some(widest) = widest(part.lo(), part.hi()) else {
         let proof = shut_point(alloc, rows, &part, best)?;
         tree.shut(proof)?;
         return Ok(());

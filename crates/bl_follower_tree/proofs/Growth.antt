@@ -4,11 +4,10 @@ use Rattle.std.specs.Prelude.{ℤ, Option, Some, None, All, false}
 use Rattle.std.proofs.lemmas.Bool.{false≢true}
 use Rattle.std.proofs.lemmas.List.{length-append, map-append, append-nil}
 use Rattle.std.proofs.lemmas.List.Elements.{All-append, All-cons, All-nil, Contains-push, Contains-append_left}
-use Rattle.bl_terms.specs.Points.{Area}
+use Rattle.bl_terms.specs.Points.{Area, IsOnePoint}
 use Rattle.bl_terms.specs.Bounds.{Problem, Multipliers, Proves, over}
 use Rattle.bl_terms.specs.Trees.{CanSplit, low_half, high_half, point_count}
 use Rattle.bl_terms.proofs.TreeLemmas.{point_count-split, point_count-positive}
-use Rattle.bl_bound.specs.Plain.{IsOnePoint}
 use Rattle.bl_licence.specs.declared.why.Why.{Why}
 use Rattle.bl_fproof.specs.declared.answered.Step.{Step}
 use Rattle.bl_fproof.specs.declared.answered.Step.TheVariants as step

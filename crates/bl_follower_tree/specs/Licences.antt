@@ -1,9 +1,8 @@
 -- Trusted. Trees over a problem's box whose splits and open leaves have licences.
 use Rattle.std.specs.Prelude.{◌≡◌, ℕ, ℤ, Contains, List, [], ◌∷◌, Option, Some, None}
-use Rattle.bl_terms.specs.Points.{Area}
+use Rattle.bl_terms.specs.Points.{Area, IsOnePoint}
 use Rattle.bl_terms.specs.Bounds.{Problem, over}
 use Rattle.bl_terms.specs.Trees.{CanSplit, low_half, high_half}
-use Rattle.bl_bound.specs.Plain.{IsOnePoint}
 use Rattle.bl_licence.specs.declared.why.Why.{Why}
 use Rattle.bl_licence.specs.Why.{IsLicence}
 use Rattle.bl_fproof.specs.Entries.{IsPointOfCost}

@@ -13,6 +13,7 @@ use Rattle.bl_whole.specs.Sums.{component, dot}
 use Rattle.bl_whole.specs.Within.{IsWithin, AreWithin}
 use Rattle.bl_whole.proofs.WithinLemmas.{within_entry, within_high, within_low, within_from_bounds, within_more}
 use Rattle.bl_whole.proofs.WithinLemmas.{within_difference, within_dot, fits_from_within}
+use Rattle.bl_terms.proofs.FollowerProofLemmas.{follower_box-area}
 use Rattle.bl_terms.specs.Points.{Area, IsArea, IsWithinArea, Linear, values_at}
 use Rattle.bl_terms.specs.Bounds.{Problem, Fits, IsProblem, linear_at, over}
 use Rattle.bl_terms.specs.Programs.{Program, IsProgram, Row, row_at, columns}
@@ -164,16 +165,6 @@ rows_few p l (r ∷ rs) = by r.lower (rows_few p l rs)
         → length (cond t (follower_row p l r ∷ follower_rows p l rs) (follower_rows p l rs)) ≤ suc (length rs)
     by true h = omega arith
     by false h = omega arith
-
-pub follower_box-area : (p : Program) → IsProgram p → IsArea (follower_box p)
-follower_box-area p g = record {
-  sides = length-map p.follower (λ k. component p.hi k) ∙ sym (length-map p.follower (λ k. component p.lo k));
-  ordered = λ j b.
-      let b' : j < length p.follower = rw length-map at b in
-      rw (values_at-entry p.lo p.follower j b', values_at-entry p.hi p.follower j b')
-      (g.box.ordered (slice_index p.follower j)
-      (g.follower_below (slice_index p.follower j) (Contains-at p.follower j b')));
-}
 
 pub whole_fits : (p : Program) (l : List ℤ) → IsModel p → IsLink p l → Fits (whole_problem p l)
 whole_fits p l m is =

@@ -18,7 +18,8 @@ use std::alloc::{AllocError, Global};
 use std::marker::Model;
 use std::sync::Arc;
 
-/// What the follower answers to a link of a model. Only [`admit`] makes one, so that it is true.
+/// What the follower answers to a link of a model. It is true: [`admit`] tests its proof, and [`Entry::make`] asks for
+/// it.
 #[derive(Debug, Drop)]
 pub struct Entry {
     model: Arc<Bilevel, Global>,
@@ -39,6 +40,20 @@ impl Model for Entry {
 }
 
 impl Entry {
+    /// The entry of an answer that is known to be shown.
+    pub fn make(model: Arc<Bilevel, Global>, link: Vec<i64>, answered: Answered) -> Entry
+        requires model { IsModel (arc_value model) }
+        requires link { IsLink (arc_value model) link.items }
+        requires shown { IsShown (arc_value model) link.items answered }
+        ensures { result ≡ record { program = arc_value model; link = link.items; answered = answered } }
+    {
+        Entry {
+            model,
+            link,
+            answered,
+        }
+    }
+
     /// The model.
     pub fn model(&self) -> &Arc<Bilevel, Global>
         ensures value { arc_value result.now ≡ self.now.program }

@@ -1,7 +1,7 @@
 //! What the follower can answer to the values of the linking columns, and proofs of it: a tree over
 //! the box of the follower's columns whose leaves are closed by bound proofs.
 //!
-//! [`admit`] is the only maker of an [`Entry`], so that each entry is true.
+//! [`admit`] makes an [`Entry`] of an answer whose proof it has tested, so that each entry is true.
 #![tactic(auto)]
 
 mod answered;

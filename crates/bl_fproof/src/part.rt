@@ -8,6 +8,7 @@ ghost use Rattle.bl_terms.specs.Trees.{CanSplit};
 ghost use Rattle.bl_fproof.specs.Stacks.{AreHalves, IsPart};
 
 use crate::rows::FollowerRows;
+use bl_place::can_split;
 use std::alloc::{AllocError, Global};
 use std::marker::Model;
 
@@ -78,14 +79,6 @@ impl Part {
         let below = with_number(alloc, &hi, column, at)?;
         Ok(Some((Part { lo, hi: below }, Part { lo: above, hi })))
     }
-}
-
-/// Whether the place has a number of the column's range on both sides.
-fn can_split(lo: &[i64], hi: &[i64], column: usize, at: i64) -> bool
-    requires { length hi.now ≡ length lo.now }
-    ensures { IsTrue result ↔ CanSplit (record { lo = lo.now; hi = hi.now }) column at }
-{
-    column < lo.len() && lo[column] <= at && at < hi[column]
 }
 
 /// The next place.

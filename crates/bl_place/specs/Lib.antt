@@ -1,0 +1,2 @@
+-- Internal. The widest column so far.
+pub mod Widest
