@@ -1,0 +1,11 @@
+pub mod Numbers
+pub mod RowLists
+pub mod Candidates
+pub mod Units
+pub mod Values
+pub mod Bijections
+pub mod RowValues
+pub mod Standing
+pub mod Keeping
+pub mod Inverting
+pub mod Law
