@@ -1,0 +1,21 @@
+//! No-good cuts: when their parts show them.
+#![tactic(auto)]
+
+mod fault;
+mod items;
+mod lists;
+mod moved;
+mod prove;
+mod response;
+mod rows;
+mod same;
+mod size;
+mod steps;
+mod sums;
+#[cfg(test)]
+mod tests;
+mod tight;
+mod units;
+
+pub use fault::CutFault;
+pub use prove::prove_cut;
