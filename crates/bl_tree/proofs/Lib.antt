@@ -1,0 +1,7 @@
+pub mod Problems
+pub mod Incumbents
+pub mod Links
+pub mod CutLists
+pub mod Licences
+pub mod PlainLaws
+pub mod Leaves
