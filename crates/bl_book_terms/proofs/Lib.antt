@@ -1,0 +1,4 @@
+pub mod NodeLemmas
+pub mod StepLemmas
+pub mod RunLemmas
+pub mod ClaimLemmas
