@@ -98,13 +98,14 @@ abbrev pub with_response : Program → List ℤ → List ℤ → List ℤ
 with_response p z y = put_at p.follower y z
 
 -- at the follower's columns it has the response, and elsewhere it is z
-with_response-same : (p : Program) (z y : List ℤ) → IsProgram p → length z ≡ columns p → length y ≡ length p.follower
-    → (j : ℕ) → j < length p.follower → component (with_response p z y) (slice_index p.follower j) ≡ component y j
+pub with_response-same : (p : Program) (z y : List ℤ) → IsProgram p → length z ≡ columns p
+    → length y ≡ length p.follower → (j : ℕ) → j < length p.follower
+    → component (with_response p z y) (slice_index p.follower j) ≡ component y j
 with_response-same p z y g e e' j b =
     put_at-same p.follower y z (rising_pairs p.follower g.follower_rising)
     (λ k m. let b = g.follower_below k m in omega arith) e' j b
 
-with_response-response : (p : Program) (z y : List ℤ) → IsProgram p → length z ≡ columns p
+pub with_response-response : (p : Program) (z y : List ℤ) → IsProgram p → length z ≡ columns p
     → length y ≡ length p.follower → response_of p (with_response p z y) ≡ y
 with_response-response p z y g e e' =
     ext_get_or (pos 0) (response_of p (with_response p z y)) y
@@ -112,7 +113,7 @@ with_response-response p z y g e e' =
     (λ j b. let b' : j < length p.follower = rw length-map at b in
     values_at-entry (with_response p z y) p.follower j b' ∙ with_response-same p z y g e e' j b')
 
-with_response-lead : (p : Program) (z y : List ℤ) → SameLead p z (with_response p z y)
+pub with_response-lead : (p : Program) (z y : List ℤ) → SameLead p z (with_response p z y)
 with_response-lead p z y = record { agree = λ k leader. sym (put_at-other p.follower y z k leader.leads) }
 
 -- points that agree on the leader's columns have one link
@@ -131,7 +132,7 @@ at_follower : (p : Program) (P : ℕ → Type 0) → ((j : ℕ) → j < length p
 at_follower p P h k m = let q = place_of p.follower k m in subst P q.2 (h q.0 q.1)
 
 -- a response put into a point of the box with its link is a point of the box that meets the follower's rows
-with_response-in : (p : Program) (z y : List ℤ) → IsProgram p → InBox p z → InRanges p p.follower y
+pub with_response-in : (p : Program) (z y : List ℤ) → IsProgram p → InBox p z → InRanges p p.follower y
     → InBox p (with_response p z y)
 with_response-in p z y g inside ranges = record {
   columns = length-put_at p.follower y z ∙ inside.columns;
@@ -147,10 +148,10 @@ with_response-in p z y g inside ranges = record {
   ];
 }
 
-with_response-link : (p : Program) (z y : List ℤ) → IsProgram p → link_of p (with_response p z y) ≡ link_of p z
+pub with_response-link : (p : Program) (z y : List ℤ) → IsProgram p → link_of p (with_response p z y) ≡ link_of p z
 with_response-link p z y g = sym (link_from_lead p z (with_response p z y) g (with_response-lead p z y))
 
-with_response-lower : (p : Program) (z y : List ℤ) → IsProgram p → InBox p z → IsResponse p (link_of p z) y
+pub with_response-lower : (p : Program) (z y : List ℤ) → IsProgram p → InBox p z → IsResponse p (link_of p z) y
     → MeetsLowerRows p (with_response p z y)
 with_response-lower p z y g inside r = record {
   each = λ i b low.
@@ -165,7 +166,7 @@ with_response-lower p z y g inside r = record {
       record { holds = omega (arith, ints) };
 }
 
-with_response-cost : (p : Program) (z y : List ℤ) → IsProgram p → InBox p z → IsResponse p (link_of p z) y
+pub with_response-cost : (p : Program) (z y : List ℤ) → IsProgram p → InBox p z → IsResponse p (link_of p z) y
     → follower_at p (with_response p z y) ≡ response_cost p y
 with_response-cost p z y g inside r =
     cost_split p (with_response p z y) g
@@ -174,7 +175,7 @@ with_response-cost p z y g inside r =
 -- ---- the laws
 
 -- any point that agrees with z has a response to z's link
-response_at : (p : Program) (z z' : List ℤ) → IsProgram p → InBox p z' → MeetsLowerRows p z' → SameLead p z z'
+pub response_at : (p : Program) (z z' : List ℤ) → IsProgram p → InBox p z' → MeetsLowerRows p z' → SameLead p z z'
     → IsResponse p (link_of p z) (response_of p z')
 response_at p z z' g inside lower same =
     let P : List ℤ → Type 0 = λ l. IsResponse p l (response_of p z') in
@@ -195,7 +196,7 @@ entry_is_optimum p z y v g inside best = record {
 pub no_response_no_point : NoResponseNoPoint
 no_response_no_point p z g inside none lower = none (response_of p z) (response_from_point p z g inside lower)
 
-best_from_optimum : (p : Program) (z : List ℤ) (v : ℤ) → IsProgram p → InBox p z → IsFollowerOptimum p z v
+pub best_from_optimum : (p : Program) (z : List ℤ) (v : ℤ) → IsProgram p → InBox p z → IsFollowerOptimum p z v
     → (y : List ℤ) × IsBest p (link_of p z) y v
 best_from_optimum p z v g inside o = (
   response_of p o.reached.0,
@@ -216,7 +217,7 @@ optimum_of_link p z z' v g inside inside' same o =
     let P : List ℤ → Type 0 = λ l. IsBest p l b.0 v in
     entry_is_optimum p z' b.0 v g inside' (subst P same b.1)
 
-lower_from_rows : (p : Program) (z : List ℤ) → MeetsRows p z → MeetsLowerRows p z
+pub lower_from_rows : (p : Program) (z : List ℤ) → MeetsRows p z → MeetsLowerRows p z
 lower_from_rows p z rows = record { each = λ i b _. rows.each i b }
 
 pub entry_law : EntryLaw
