@@ -1,97 +1,24 @@
 //! A pool of answers to links of Moore and Bard's program (1990), worked out by hand.
 
-ghost use Rattle.std.specs.Prelude.{◌≡◌, ◌≤◌, ◌≤ℤ◌, pos, [], length, vec_len, All, IfOk};
-ghost use Rattle.bl_raw.specs.Raw.{FitsModel, IsColumn, IsRow};
+ghost use Rattle.std.specs.Prelude.{◌≤ℤ◌, pos};
 
 use super::*;
 use bl_bound::Proof;
+use bl_examples::{dearer_moore_bard, moore_bard};
 use bl_fproof::{Answered, Entry, FollowerProof, Step, admit, is_link};
-use bl_model::{Bilevel, Listed, Name, RawAux, RawColumn, RawMps, RawRow, build};
+use bl_model::{Bilevel, Listed};
 use std::alloc::Global;
 use std::sync::Arc;
 use std::test::Fail;
 
-fn name(alloc: Global, letter: u8) -> Result<Name, Fail> {
-    Ok(Listed::new(vec![in alloc; letter]?))
-}
-
-/// A row `lo <= coef·z <= hi`.
-fn row(alloc: Global, lo: Option<i64>, hi: Option<i64>) -> Result<RawRow, Fail>
-    requires { IsRow (record { name = []; lo = lo; hi = hi }) }
-    ensures { IfOk result IsRow }
-{
-    Ok(RawRow {
-        name: name(alloc, b'R')?,
-        lo,
-        hi,
-    })
-}
-
-/// A column from 0 to 10 that stands in four rows.
-fn column(alloc: Global, cost: i64, entries: &[(u32, i64)]) -> Result<RawColumn, Fail>
-    requires { IsColumn 4 (record { name = []; lo = pos 0; hi = pos 10; cost = cost; entries = entries.now }) }
-    ensures { IfOk result (IsColumn 4) }
-{
-    Ok(RawColumn {
-        name: name(alloc, b'C')?,
-        lo: 0,
-        hi: 10,
-        cost,
-        entries: Listed::new(entries.to_vec(alloc)?),
-    })
-}
-
-/// The model of these rows, columns and follower.
-fn model(
-    alloc: Global,
-    rows: Vec<RawRow>,
-    columns: Vec<RawColumn>,
-    aux: RawAux,
-) -> Result<Bilevel, Fail>
-    requires row_count { vec_len rows ≤ 200 }
-    requires column_count { vec_len columns ≤ 120 }
-    requires rows { All IsRow rows.items }
-    requires columns { All (IsColumn (length rows.items)) columns.items }
-    requires aux { FitsModel (length columns.items) (length rows.items) aux }
-{
-    let mps = RawMps {
-        maximise: false,
-        objective: name(alloc, b'Z')?,
-        rows: Listed::new(rows),
-        columns: Listed::new(columns),
+/// Moore and Bard's program, or the one with other costs of the leader.
+fn program(alloc: Global, is_dearer: bool) -> Result<Arc<Bilevel, Global>, Fail> {
+    let model = if is_dearer {
+        dearer_moore_bard(alloc)?
+    } else {
+        moore_bard(alloc)?
     };
-    Ok(build(alloc, &mps, &aux)?)
-}
-
-/// The follower's columns and rows and his costs, which he minimises.
-fn follower(alloc: Global, columns: &[u32], rows: &[u32], costs: &[i64]) -> Result<RawAux, Fail>
-    ensures { IfOk result
-        (λ aux. aux ≡ record { columns = columns.now; rows = rows.now; costs = costs.now; sense = pos 1 }) }
-{
-    Ok(RawAux {
-        columns: Listed::new(columns.to_vec(alloc)?),
-        rows: Listed::new(rows.to_vec(alloc)?),
-        costs: Listed::new(costs.to_vec(alloc)?),
-        sense: 1,
-    })
-}
-
-// X leads and Y from 0 to 10 follows with the cost Y, in all rows:
-// -25X + 20Y <= 30, X + 2Y <= 10, 2X - Y <= 15, 2X + 10Y >= 15.
-fn moore_bard(alloc: Global, is_dearer: bool) -> Result<Arc<Bilevel, Global>, Fail> {
-    let rows = vec![in alloc;
-        row(alloc, None, Some(30))?,
-        row(alloc, None, Some(10))?,
-        row(alloc, None, Some(15))?,
-        row(alloc, Some(15), None)?,
-    ]?;
-    let leader_cost = if is_dearer { -2 } else { -1 };
-    let columns = vec![in alloc;
-        column(alloc, leader_cost, &[(0, -25), (1, 1), (2, 2), (3, 2)])?,
-        column(alloc, -10, &[(0, 20), (1, 2), (2, -1), (3, 10)])?,
-    ]?;
-    let aux = follower(alloc, &[1], &[0, 1, 2, 3], &[1])?;
-    Ok(Arc::new(alloc, model(alloc, rows, columns, aux)?)?)
+    Ok(Arc::new(alloc, model)?)
 }
 
 /// The entry of this response to a value of X, which the last row shows so many times.
@@ -157,7 +84,7 @@ fn put(
 #[test]
 fn a_pool_of_one(rt: HostRuntime) -> Result<(), Fail> {
     let alloc = rt.alloc();
-    let model = moore_bard(alloc, false)?;
+    let model = program(alloc, false)?;
     let mut pool = Pool::make(alloc, model.clone()?, 1)?;
     let first = entry(alloc, &model, 2, 2, 1)?;
     assert_eq!(rt; put(alloc, &mut pool, first, 2), ("kept", Some(1)));
@@ -179,8 +106,8 @@ fn a_pool_of_one(rt: HostRuntime) -> Result<(), Fail> {
 #[test]
 fn an_entry_of_another_model(rt: HostRuntime) -> Result<(), Fail> {
     let alloc = rt.alloc();
-    let other = moore_bard(alloc, true)?;
-    let mut pool = Pool::make(alloc, moore_bard(alloc, false)?, 2)?;
+    let other = program(alloc, true)?;
+    let mut pool = Pool::make(alloc, program(alloc, false)?, 2)?;
     let entry = entry(alloc, &other, 2, 2, 1)?;
     assert_eq!(rt; put(alloc, &mut pool, entry, 2), ("other model", Some(1)));
     assert!(rt; pool.get(&[2]).is_none());

@@ -1,6 +1,6 @@
 use Rattle.std.proofs.Common.{rules, w64}
 use Rattle.std.proofs.lemmas.Int.{to_z-of_z}
-use Rattle.bl_plain.proofs.tests.column.Goals as goal
+use Rattle.bl_examples.proofs.parts.column.Goals as goal
 
 pub returns : goal.returns
 returns c = rw (to_z-of_z w64 c.args.lo c.ranges.lo, to_z-of_z w64 c.args.hi c.ranges.hi) record {
