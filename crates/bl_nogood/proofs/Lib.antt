@@ -1,7 +1,2 @@
-pub mod MoveLemmas
-pub mod SameLemmas
-pub mod AdoptLemmas
-pub mod CodeLemmas
-pub mod RowLemmas
-pub mod ResponseLemmas
-pub mod ProveLemmas
+pub mod Chosen
+pub mod KeptLemmas

@@ -1,6 +1,5 @@
--- Adopting and Proving are trusted: the list of steps of a new cut, and when its parts show it. Faults and Rows are
--- internal.
-pub mod Adopting
-pub mod Proving
-pub mod Faults
-pub mod Rows
+-- Candidates and Making are trusted: the rows that hold with equality at a point, and the cut that the elimination
+-- makes of them. Choosing is internal.
+pub mod Candidates
+pub mod Choosing
+pub mod Making

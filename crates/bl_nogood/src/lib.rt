@@ -1,21 +1,15 @@
-//! No-good cuts: when their parts show them.
+//! No-good cuts: made of the rows that hold with equality at a point, or proved from their parts.
 #![tactic(auto)]
 
-mod fault;
-mod items;
-mod lists;
-mod moved;
-mod prove;
-mod response;
-mod rows;
-mod same;
-mod size;
-mod steps;
-mod sums;
+mod candidates;
+mod costs;
+mod kept;
+mod make;
+mod no_cut;
 #[cfg(test)]
 mod tests;
-mod tight;
-mod units;
 
-pub use fault::CutFault;
-pub use prove::prove_cut;
+pub use bl_cut::{CutParts, CutStep, Cuts, ProvedCut, Tight};
+pub use bl_cut_proof::{CutFault, prove_cut};
+pub use make::make_cut;
+pub use no_cut::NoCut;

@@ -1,6 +1,0 @@
-use Rattle.std.proofs.Common.{◌≡◌, drop}
-use Rattle.bl_nogood.specs.Adopting.{is_used}
-use Rattle.bl_nogood.proofs.steps.is_used.Given as goal
-
-abbrev pub invariant-loop-item : goal.invariant-loop-item
-invariant-loop-item l = is_used l.cut l.tight ≡ is_used l.cut (drop l.item-index l.tight)

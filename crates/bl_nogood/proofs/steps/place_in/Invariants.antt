@@ -1,8 +1,0 @@
-use Rattle.std.proofs.Common.{◌≡◌, ◌+◌, drop, map}
-use Rattle.std.specs.Arc.{arc_value}
-use Rattle.bl_nogood.specs.Adopting.{place_in}
-use Rattle.bl_nogood.proofs.steps.place_in.Given as goal
-
-abbrev pub invariant-loop-place : goal.invariant-loop-place
-invariant-loop-place l = place_in (map arc_value l.steps) l.step
-    ≡ l.place + place_in (drop l.place (map arc_value l.steps)) l.step

@@ -1,6 +1,0 @@
-use Rattle.std.proofs.Common.{◌≡◌, take, map}
-use Rattle.bl_nogood.specs.Adopting.{reordered}
-use Rattle.bl_nogood.proofs.units.reordered_units.Given as goal
-
-abbrev pub invariant-loop-unit : goal.invariant-loop-unit
-invariant-loop-unit l = l.moved.items ≡ take l.unit-index (map (λ unit. reordered unit 0 l.order) l.units)
