@@ -1,0 +1,73 @@
+//! One worker.
+ghost use Rattle.std.specs.Prelude.{◌≤◌, IfOk, MatchOption};
+ghost use Rattle.std.specs.Arc.{arc_value};
+ghost use Rattle.bl_book_terms.specs.Books.{Ready, HasStatus, IsFinished};
+ghost use Rattle.bl_team.specs.Answers.{AreSettings, IsOutcomeFor};
+ghost use Rattle.bl_team.specs.Turns.{IsIdle, IsEnd};
+
+use crate::settings::Settings;
+use crate::turn::{Turn, take_turn};
+use bl_core::{Book, Ended, Outcome};
+use bl_limits::MAX_POOL_ENTRIES;
+use bl_model::Bilevel;
+use bl_node::Source;
+use bl_pool::Pool;
+use bl_tree::State;
+use std::alloc::{AllocError, Global};
+use std::sync::Arc;
+
+/// The next node to work on: the last one put off that is ready, else the first one that is ready at all.
+fn next_node(book: &Book, put_off: &mut Vec<u32>) -> Option<u32>
+    requires { IsIdle book.now.ledger.book }
+    ensures { MatchOption result (IsFinished book.now.ledger.book)
+        (λ node. HasStatus book.now.ledger.book node Ready) }
+{
+    while let Some(node) = put_off.pop() {
+        if let Some(State::Ready) = book.state(node) {
+            return Some(node);
+        }
+    }
+    book.next_ready(0)
+}
+
+/// Works on nodes until none is left, or a limit is spent. The low half of a split comes first, and the high one is put
+/// off.
+fn search<S: Source>(
+    alloc: Global,
+    mut book: Book,
+    pool: &mut S,
+    follower_nodes: u32,
+) -> Result<Outcome, AllocError>
+    requires idle { IsIdle book.ledger.book }
+    requires follower { 1 ≤ follower_nodes }
+    ensures { IfOk result (λ o. IsEnd follower_nodes book.ledger.book o.book.ledger o.end) }
+{
+    let mut put_off = Vec::new(alloc);
+    'nodes: loop {
+        let Some(node) = next_node(&book, &mut put_off) else {
+            return Ok(Outcome::make(book, Ended::Done));
+        };
+        match take_turn(alloc, &mut book, node, pool, follower_nodes)? {
+            Turn::Closed => {}
+            Turn::Divided { low, high } => {
+                put_off.push(high)?;
+                put_off.push(low)?;
+            }
+            Turn::Ended(end) => return Ok(Outcome::make(book, end)),
+        }
+    }
+}
+
+/// Solves a model with one worker, whatever the number of workers that is set.
+pub fn solve_alone(
+    alloc: Global,
+    model: Arc<Bilevel, Global>,
+    settings: Settings,
+) -> Result<Outcome, AllocError>
+    requires { AreSettings settings }
+    ensures { IfOk result (IsOutcomeFor (arc_value model) 1 settings) }
+{
+    let mut pool = Pool::make(alloc, model.clone()?, MAX_POOL_ENTRIES)?;
+    let book = Book::start(alloc, model, 1, settings.nodes)?;
+    search(alloc, book, &mut pool, settings.follower_nodes)
+}
