@@ -156,7 +156,7 @@ distinct_by_test (x ∷ xs) h = (
 )
 
 -- no more distinct places are below a limit than it says
-few_places : (xs : List ℕ) (limit : ℕ) → All (λ x. x < limit) xs → AreDistinct xs → length xs ≤ limit
+pub few_places : (xs : List ℕ) (limit : ℕ) → All (λ x. x < limit) xs → AreDistinct xs → length xs ≤ limit
 few_places xs limit below distinct =
     length-le_from_distinct_below xs limit (distinct_by_test xs distinct)
     (λ q member.
@@ -239,7 +239,7 @@ costs-read sizes n m columns rows before (z ∷ more) number lines h =
 -- ---- the whole text
 
 -- the lines of a follower's canonical text
-canonical_lines : RawAux → List (List ℕ)
+unfoldable pub canonical_lines : RawAux → List (List ℕ)
 canonical_lines aux =
     line_of N (pos (length aux.columns)) ∷ line_of M (pos (length aux.rows))
     ∷ (map (line_of Lc) (map pos aux.columns)
@@ -293,7 +293,7 @@ joined a b xs ys zs c =
     ∙ ap (λ (t : List ℕ). ended a ++ (ended b ++ t))
     (sym (text_with xs _ _ (text_with ys _ _ (text_with zs (c ∷ []) (ended c) (append-nil (ended c))))))
 
-lines-whole : (aux : RawAux) → aux_text aux ≡ flat_map ended (canonical_lines aux)
+pub lines-whole : (aux : RawAux) → aux_text aux ≡ flat_map ended (canonical_lines aux)
 unfolding aux_text canonical_lines
 lines-whole aux =
     rw (

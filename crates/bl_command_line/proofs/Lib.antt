@@ -1,3 +1,4 @@
 pub mod Entries
-pub mod Orders
-pub mod Taken
+pub mod Rows
+pub mod Turns
+pub mod Walks

@@ -1,14 +1,28 @@
 //! The commands as clap has them.
 ghost use Rattle.std.specs.Prelude.{◌≡◌, IfOk};
 ghost use Rattle.clap.specs.Words.{app_of};
-ghost use Rattle.bl_command_line.specs.Apps.{model_app};
+ghost use Rattle.bl_command_line.specs.Apps.{files_app, model_app, with_budgets};
 
+use bl_words::Command as Kind;
 use clap::{Arg, Command};
 use std::alloc::{AllocError, Global};
 
-/// The command of this name: two files and a default upper bound.
-pub(crate) fn model_command<'a>(alloc: Global, name: &'a str) -> Result<Command<'a>, AllocError>
-    ensures { IfOk result (λ command. app_of command ≡ model_app name.now) }
+/// The command with its files and options.
+pub(crate) fn model_command<'a>(alloc: Global, kind: Kind) -> Result<Command<'a>, AllocError>
+    ensures { IfOk result (λ command. app_of command ≡ model_app kind) }
+{
+    match kind {
+        Kind::Solve => {
+            let files = files_command(alloc, "solve")?;
+            with_budgets(alloc, files)
+        }
+        Kind::Show => files_command(alloc, "show"),
+    }
+}
+
+/// A command of this name over two files with a default upper bound.
+fn files_command<'a>(alloc: Global, name: &'a str) -> Result<Command<'a>, AllocError>
+    ensures { IfOk result (λ command. app_of command ≡ files_app name.now) }
 {
     let mps = Arg::new(alloc, "mps").required(true);
     let aux = Arg::new(alloc, "aux").required(true);
@@ -16,4 +30,14 @@ pub(crate) fn model_command<'a>(alloc: Global, name: &'a str) -> Result<Command<
     let with_mps = Command::new(alloc, name).disable_help_flag(true).arg(mps)?;
     let with_aux = with_mps.arg(aux)?;
     with_aux.arg(upper)
+}
+
+/// The command with the budgets of nodes.
+fn with_budgets<'a>(alloc: Global, command: Command<'a>) -> Result<Command<'a>, AllocError>
+    ensures { IfOk result (λ whole. app_of whole ≡ with_budgets (app_of command.entry)) }
+{
+    let nodes = Arg::new(alloc, "nodes").long("nodes");
+    let follower = Arg::new(alloc, "follower-nodes").long("follower-nodes");
+    let with_nodes = command.arg(nodes)?;
+    with_nodes.arg(follower)
 }

@@ -1,3 +1,4 @@
+pub mod OutcomeLemmas
 pub mod PromiseLemmas
 pub mod SolveLemmas
 pub mod StatusLemmas

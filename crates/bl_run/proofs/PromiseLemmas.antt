@@ -1,9 +1,9 @@
 -- That a cause excludes the others, and from how a command ended to its promise.
-use Rattle.std.proofs.Common.{◌≡◌, ℕ, ◌<◌, ◌≤◌, List, arith, refl, sym, ap, subst, ◌∙◌, ◌⊎◌, inl, inr, ⊎_elim, []}
+use Rattle.std.proofs.Common.{◌≡◌, ℕ, ◌+◌, ◌*◌, ◌≤◌, List, arith, refl, sym, ap, subst, ◌∙◌, ◌⊎◌, inl, inr, ⊎_elim, []}
 use Rattle.std.specs.Prelude.{Bool, ℤ, Option, None, Some}
+use Rattle.std.specs.Option.{option_map_or}
 use Rattle.bl_outer.specs.Files.{Files, IsAbsent, IfTold}
 use Rattle.bl_outer.specs.Sink.{SinkState}
-use Rattle.bl_limits.specs.declared.TheConstants.{MAX_WALK_POINTS}
 use Rattle.bl_raw.specs.declared.raw.RawMps.{RawMps}
 use Rattle.bl_raw.specs.declared.raw.RawAux.{RawAux}
 use Rattle.bl_model.specs.Build.{program_of}
@@ -15,48 +15,65 @@ use Rattle.bl_words.specs.Items.{AreModelWords}
 use Rattle.bl_run.proofs.WordsLemmas.{says_once, one_name}
 use Rattle.bl_aux.proofs.Meanings.{tells_one}
 use Rattle.bl_aux.specs.declared.fault.AuxFault.{AuxFault}
-use Rattle.bl_terms.specs.Programs.{root}
+use Rattle.bl_terms.specs.Programs.{Program, root}
 use Rattle.bl_terms.specs.Trees.{point_count}
+use Rattle.bl_terms.specs.FollowerProofs.{follower_box}
+use Rattle.bl_leaf_terms.specs.Incumbents.{Incumbent}
+use Rattle.bl_book_terms.specs.Books.{Book}
+use Rattle.bl_core.specs.declared.outcome.Ended.{Ended}
+use Rattle.bl_core.specs.declared.outcome.Ended.TheVariants as ended
+use Rattle.bl_team.specs.Answers.{EndsWithin}
 use Rattle.bl_run.specs.declared.status.Answer.{Answer}
 use Rattle.bl_run.specs.declared.status.Answer.TheVariants as answer
 use Rattle.bl_run.specs.Words.{ModelWords, AreAsked, AreRefused}
-use Rattle.bl_run.specs.Texts.{IsMpsText, IsMpsFault, IsAuxText, IsAuxFault, IsNotYet, sizes, mps_rule, mps_place}
+use Rattle.bl_run.specs.Texts.{IsMpsText, IsMpsFault, IsAuxText, IsAuxFault, sizes, mps_rule, mps_place}
 use Rattle.bl_run.specs.Texts.{aux_rule, line_place}
 use Rattle.bl_run.specs.Endings.{Place, AsWhole, Ending, Done, NoPoint, BadWords, BadText, NodesSpent, FollowerSpent}
 use Rattle.bl_run.specs.Endings.{ReadFault, WriteFault, OutOfMemory, NotAccepted, Missing, ManyPoints, ToFile, ToOutput}
 use Rattle.bl_run.specs.Endings.{status_of, line_of}
-use Rattle.bl_run.specs.Solve.{HasAux, HasMps, IsMissing, IsSmall, ReadsBoth, ReadsMps, RefusesAux, RefusesBox}
-use Rattle.bl_run.specs.Solve.{RefusesMps, RefusesText, Run, program}
-use Rattle.bl_run.specs.Promise.{Outside, HasCause, ComesFirst, EndsInAnswer, IsDue, Tells, Promise}
+use Rattle.bl_run.specs.Solve.{HasAux, HasMps, IsMissing, ReadsBoth, ReadsMps, RefusesAux}
+use Rattle.bl_run.specs.Solve.{RefusesMps, RefusesText, Run, program, IsSolved, IsWorked, IsAmple}
+use Rattle.bl_run.specs.Solve.{ending_at, ending_of, ending_by, EndsSo}
+use Rattle.bl_run.specs.Promise.{Outside, HasCause, ComesFirst, EndsInAnswer, EndsSpent, IsDue, Tells, Promise}
 use Rattle.bl_run.specs.Steps.{answer_ending, EndsCommand}
 
 some_is : (x y : List ℕ) → Some x ≡ Some y → x ≡ y
 some_is x y e = cc
 
 -- the words ask for one thing
+abbrev words_by : Command → List ℕ → List ℕ → ℤ → ℕ → ℕ → ModelWords
+words_by command mps aux upper nodes follower_nodes = record {
+  command = command;
+  mps = mps;
+  aux = aux;
+  default_upper = upper;
+  nodes = nodes;
+  follower_nodes = follower_nodes;
+}
+
 same_words : (a b : ModelWords) → a.command ≡ b.command → a.mps ≡ b.mps → a.aux ≡ b.aux
-    → a.default_upper ≡ b.default_upper → a ≡ b
-same_words a b command mps aux upper =
-    ap (λ (c : Command). record { command = c; mps = a.mps; aux = a.aux; default_upper = a.default_upper }) command
-    ∙ ap (λ (n : List ℕ). record { command = b.command; mps = n; aux = a.aux; default_upper = a.default_upper }) mps
-    ∙ ap (λ (n : List ℕ). record { command = b.command; mps = b.mps; aux = n; default_upper = a.default_upper }) aux
-    ∙ ap (λ (z : ℤ). record { command = b.command; mps = b.mps; aux = b.aux; default_upper = z }) upper
+    → a.default_upper ≡ b.default_upper → a.nodes ≡ b.nodes → a.follower_nodes ≡ b.follower_nodes → a ≡ b
+same_words a b command mps aux upper nodes follower_nodes =
+    ap (λ (c : Command). words_by c a.mps a.aux a.default_upper a.nodes a.follower_nodes) command
+    ∙ ap (λ (n : List ℕ). words_by b.command n a.aux a.default_upper a.nodes a.follower_nodes) mps
+    ∙ ap (λ (n : List ℕ). words_by b.command b.mps n a.default_upper a.nodes a.follower_nodes) aux
+    ∙ ap (λ (z : ℤ). words_by b.command b.mps b.aux z a.nodes a.follower_nodes) upper
+    ∙ ap (λ (n : ℕ). words_by b.command b.mps b.aux b.default_upper n a.follower_nodes) nodes
+    ∙ ap (λ (n : ℕ). words_by b.command b.mps b.aux b.default_upper b.nodes n) follower_nodes
 
 one_command : (does : Command → Bool) (words : List (List ℕ)) (a b : ModelWords)
     → AreAsked does words a → AreAsked does words b → a ≡ b
 one_command does words a b these those =
     let command =
-    one_name a.command b.command words a.mps b.mps a.aux b.aux a.default_upper b.default_upper these.1 those.1 in
+    one_name a.command b.command words a.mps b.mps a.aux b.aux a.default_upper b.default_upper a.nodes b.nodes
+    a.follower_nodes b.follower_nodes these.1 those.1 in
     let moved =
-    subst (λ (c : Command). AreModelWords c words b.mps b.aux b.default_upper) (sym command) those.1 in
+    subst (λ (c : Command). AreModelWords c words b.mps b.aux b.default_upper b.nodes b.follower_nodes) (sym command)
+    those.1 in
     let same =
-    says_once a.command words a.mps b.mps a.aux b.aux a.default_upper b.default_upper these.1 moved in
-    same_words a b command same.0 same.1 same.2
-
--- a small box has few points
-few_of : (run : Run) (c : Command) → c ≡ Solve → IsSmall c run → point_count (root (program run)) ≤ MAX_WALK_POINTS
-few_of run Solve e h = h
-few_of run Show e h = cc
+    says_once a.command words a.mps b.mps a.aux b.aux a.default_upper b.default_upper a.nodes b.nodes
+    a.follower_nodes b.follower_nodes these.1 moved in
+    same_words a b command same.mps same.aux same.upper same.nodes same.follower_nodes
 
 -- a text says one model
 one_model : (default : ℤ) (text : List ℕ) (a b : RawMps)
@@ -75,11 +92,6 @@ mps_once default text place place' rule rule' h k =
       h.by_rule ∙ ap (λ (f : MpsFault). mps_rule f.rule) same ∙ sym k.by_rule,
     )
 
--- what isn't read yet is refused in one way
-not_yet_once : (place place' : Place) (rule rule' : List ℕ) → IsNotYet place rule → IsNotYet place' rule'
-    → (place ≡ place') × (rule ≡ rule')
-not_yet_once place place' rule rule' h k = (h.0 ∙ sym k.0, h.1 ∙ sym k.1)
-
 -- an auxiliary text is refused in one way
 aux_once : (mps : RawMps) (text : List ℕ) (place place' : Place) (rule rule' : List ℕ)
     → IsAuxFault mps text place rule → IsAuxFault mps text place' rule' → (place ≡ place') × (rule ≡ rule')
@@ -90,11 +102,33 @@ aux_once mps text place place' rule rule' h k =
           ∙ ap (λ (f : AuxFault). aux_rule f.rule) same ∙ sym k.by_rule,
     )
 
--- the box is that of the model alone
-one_box : (mps : RawMps) (aux other : RawAux) → point_count (root (program_of mps aux)) ≡ point_count
-    (root (program_of mps other))
-unfolding program_of
-one_box mps aux other = refl
+-- ---- budgets
+
+-- budgets of which no search over the program spends one
+abbrev AreAmple : Program → ModelWords → Type 0
+AreAmple p words = (2 * point_count (root p) ≤ words.nodes + 1)
+    × (2 * point_count (follower_box p) ≤ words.follower_nodes + 1)
+
+ample_of : (c : Command) (run : Run) → c ≡ Solve → IsAmple c run → AreAmple (program run) run.words
+ample_of Solve run e h = h
+ample_of Show run e h = cc
+
+answer_unspent : (best : Option Incumbent) → EndsSpent (option_map_or (λ f. Done) best NoPoint) → ⊥
+answer_unspent None spent = spent
+answer_unspent (Some f) spent = spent
+
+ample_unspent : (p : Program) (words : ModelWords) (b : Book) (end : Ended)
+    → EndsWithin p words.nodes words.follower_nodes end → AreAmple p words → EndsSpent (ending_at words b end) → ⊥
+ample_unspent p words b ended.Done within ample spent = answer_unspent b.best spent
+ample_unspent p words b (ended.Nodes node why) within ample spent = omega (arith, within, ample.0)
+ample_unspent p words b (ended.Follower s) within ample spent = omega (arith, within.1, ample.1)
+
+-- a command that spends a budget searches
+spends_solving : (c : Command) (run : Run) (ending : Ending) → ending_by c run ≡ ending → EndsSpent ending → c ≡ Solve
+spends_solving Solve run ending e spent = refl
+spends_solving Show run ending e spent = absurd (subst EndsSpent (sym e) spent)
+
+-- ---- files
 
 -- two runs of the same words over the same files
 module _ (files : Files) (run other : Run) (same : run.words ≡ other.words) where
@@ -129,6 +163,38 @@ module _ (files : Files) (run other : Run) (same : run.words ≡ other.words) wh
   one_mps h k =
       one_model other.words.default_upper other.mps_text run.mps other.mps (mps_says h k.held) k.says
 
+  aux_says : ReadsBoth (Some files) run → ReadsMps (Some files) other → HasAux (Some files) other
+      → IsAuxText other.mps other.aux_text run.aux
+  aux_says h read held =
+      subst (λ (mps : RawMps). IsAuxText mps other.aux_text run.aux) (one_mps h.mps read)
+      (subst (λ (text : List ℕ). IsAuxText run.mps text run.aux) (one_aux_text h.held held) h.says)
+
+  one_aux : ReadsBoth (Some files) run → ReadsBoth (Some files) other → run.aux ≡ other.aux
+  one_aux h k =
+      tells_one.follower (sizes other.mps) other.aux_text run.aux other.aux (aux_says h k.mps k.held) k.says
+
+  one_program : ReadsBoth (Some files) run → ReadsBoth (Some files) other → program run ≡ program other
+  one_program h k =
+      ap (λ (mps : RawMps). program_of mps run.aux) (one_mps h.mps k.mps)
+      ∙ ap (λ (aux : RawAux). program_of other.mps aux) (one_aux h k)
+
+  -- a budget that was spent wasn't ample
+  spent_scarce : (ending : Ending) → EndsSo (Some files) run ending → EndsSpent ending → ReadsBoth (Some files) other
+      → IsAmple other.words.command other → ⊥
+  spent_scarce ending h is k ample =
+      let solves = spends_solving run.words.command run ending h.same is in
+      let worked : IsSolved (program run) run.words run.outcome =
+      subst (λ (c : Command). IsWorked c run) solves h.finishes.worked in
+      let ends : ending_of run.words run.outcome ≡ ending = subst (λ (c : Command). ending_by c run ≡ ending) solves
+      h.same in
+      let large : AreAmple (program other) other.words =
+      ample_of other.words.command other (sym (ap (λ (w : ModelWords). w.command) same) ∙ solves) ample in
+      let these : AreAmple (program other) run.words =
+      subst (λ (w : ModelWords). AreAmple (program other) w) (sym same) large in
+      ample_unspent (program run) run.words run.outcome.book.ledger.book run.outcome.end worked.found.end
+      (subst (λ (p : Program). AreAmple p run.words) (sym (one_program h.finishes.reads k)) these)
+      (subst EndsSpent (sym ends) is)
+
   mps_unrefused : (file : List ℕ) (place : Place) (rule : List ℕ) → ReadsMps (Some files) run
       → RefusesMps (Some files) other file place rule → ⊥
   mps_unrefused file place rule h k =
@@ -138,26 +204,13 @@ module _ (files : Files) (run other : Run) (same : run.words ≡ other.words) wh
   aux_unrefused : (file : List ℕ) (place : Place) (rule : List ℕ) → ReadsBoth (Some files) run
       → RefusesAux (Some files) other file place rule → ⊥
   aux_unrefused file place rule h k =
-      tells_one.apart (sizes other.mps) other.aux_text run.aux k.fault.fault
-      (subst (λ (mps : RawMps). IsAuxText mps other.aux_text run.aux) (one_mps h.mps k.mps)
-      (subst (λ (text : List ℕ). IsAuxText run.mps text run.aux) (one_aux_text h.held k.held) h.says))
-      k.fault.first
-
-  box_unrefused : (file : List ℕ) (place : Place) (rule : List ℕ) → ReadsBoth (Some files) run
-      → IsSmall run.words.command run → RefusesBox (Some files) other file place rule → ⊥
-  box_unrefused file place rule h small k =
-      let few = few_of run run.words.command (ap (λ (w : ModelWords). w.command) same ∙ k.solves) small in
-      let large : MAX_WALK_POINTS < point_count (root (program_of run.mps other.aux)) =
-      subst (λ (mps : RawMps). MAX_WALK_POINTS < point_count (root (program_of mps other.aux)))
-      (sym (one_mps h.mps k.reads.mps)) k.large in
-      omega (arith, large, few, one_box run.mps run.aux other.aux)
+      tells_one.apart (sizes other.mps) other.aux_text run.aux k.fault.fault (aux_says h k.mps k.held) k.fault.first
 
   -- texts that are read aren't refused, and their files aren't missing
   unrefused : (file : List ℕ) (place : Place) (rule : List ℕ) → ReadsBoth (Some files) run
-      → IsSmall run.words.command run → RefusesText (Some files) other file place rule → ⊥
-  unrefused file place rule h few k =
-      ⊎_elim (mps_unrefused file place rule h.mps)
-      (λ later. ⊎_elim (aux_unrefused file place rule h) (box_unrefused file place rule h few) later) k
+      → RefusesText (Some files) other file place rule → ⊥
+  unrefused file place rule h k =
+      ⊎_elim (mps_unrefused file place rule h.mps) (aux_unrefused file place rule h) k
 
   unmissed : (file : List ℕ) → ReadsBoth (Some files) run → IsMissing (Some files) other file → ⊥
   unmissed file h k =
@@ -170,9 +223,8 @@ module _ (files : Files) (run other : Run) (same : run.words ≡ other.words) wh
   refused_unmissed file file' place rule h k =
       ⊎_elim (λ first. ⊎_elim (λ named. mps_absent file' first.held named k.absent)
       (λ later. mps_refused_read first later.1) k.next)
-      (λ rest. ⊎_elim (λ second. ⊎_elim (λ named. mps_absent file' second.mps.held named k.absent)
-      (λ later. aux_absent file' second.held later.0 k.absent) k.next)
-      (λ third. unmissed file' third.reads k) rest) h
+      (λ second. ⊎_elim (λ named. mps_absent file' second.mps.held named k.absent)
+      (λ later. aux_absent file' second.held later.0 k.absent) k.next) h
     where
       mps_refused_read : RefusesMps (Some files) run file place rule → ReadsMps (Some files) other → ⊥
       mps_refused_read first read =
@@ -194,8 +246,7 @@ module _ (files : Files) (run other : Run) (same : run.words ≡ other.words) (f
     (place place' : Place) (rule rule' : List ℕ) where
   one_refusal : RefusesText (Some files) run file place rule → RefusesText (Some files) other file' place' rule'
       → BadText file place rule ≡ BadText file' place' rule'
-  one_refusal h k = ⊎_elim (λ first. at_mps first k) (λ rest. ⊎_elim (λ second. at_aux second k)
-      (λ third. at_box third k) rest) h
+  one_refusal h k = ⊎_elim (λ first. at_mps first k) (λ second. at_aux second k) h
     where
       mps_name : file ≡ run.words.mps → file' ≡ other.words.mps → file ≡ file'
       mps_name h k = h ∙ (same_mps_name files run other same ∙ sym k)
@@ -212,9 +263,9 @@ module _ (files : Files) (run other : Run) (same : run.words ≡ other.words) (f
           (one_mps_text files run other same first.held mps.held) first.fault))
           mps.fault
 
-      one_aux : RefusesAux (Some files) run file place rule → RefusesAux (Some files) other file' place' rule'
+      one_aux_fault : RefusesAux (Some files) run file place rule → RefusesAux (Some files) other file' place' rule'
           → (place ≡ place') × (rule ≡ rule')
-      one_aux second aux =
+      one_aux_fault second aux =
           let model = one_mps files run other same second.mps aux.mps in
           let text = one_aux_text files run other same second.held aux.held in
           aux_once other.mps other.aux_text place place' rule rule'
@@ -226,24 +277,14 @@ module _ (files : Files) (run other : Run) (same : run.words ≡ other.words) (f
       at_mps first k =
           ⊎_elim (λ mps. same_refusal file file' place place' rule rule' (mps_name first.named mps.named)
           (one_mps_fault first mps))
-          (λ rest. ⊎_elim (λ aux. absurd (mps_unrefused files other run (sym same) file place rule aux.mps first))
-          (λ box. absurd (mps_unrefused files other run (sym same) file place rule box.reads.mps first)) rest) k
+          (λ aux. absurd (mps_unrefused files other run (sym same) file place rule aux.mps first)) k
 
       at_aux : RefusesAux (Some files) run file place rule → RefusesText (Some files) other file' place' rule'
           → BadText file place rule ≡ BadText file' place' rule'
       at_aux second k =
           ⊎_elim (λ mps. absurd (mps_unrefused files run other same file' place' rule' second.mps mps))
-          (λ rest. ⊎_elim (λ aux. same_refusal file file' place place' rule rule' (aux_name second.named aux.named)
-          (one_aux second aux)) (λ box. absurd (aux_unrefused files other run
-          (sym same) file place rule box.reads second)) rest) k
-
-      at_box : RefusesBox (Some files) run file place rule → RefusesText (Some files) other file' place' rule'
-          → BadText file place rule ≡ BadText file' place' rule'
-      at_box third k =
-          ⊎_elim (λ mps. absurd (mps_unrefused files run other same file' place' rule' third.reads.mps mps))
-          (λ rest. ⊎_elim (λ aux. absurd (aux_unrefused files run other same file' place' rule' third.reads aux))
-          (λ box. same_refusal file file' place place' rule rule' (mps_name third.named box.named)
-          (not_yet_once place place' rule rule' third.not_yet box.not_yet)) rest) k
+          (λ aux. same_refusal file file' place place' rule rule' (aux_name second.named aux.named)
+          (one_aux_fault second aux)) k
 
   one_missing : IsMissing (Some files) run file → IsMissing (Some files) other file' → file ≡ file'
   one_missing h k =
@@ -257,27 +298,42 @@ module _ (files : Files) (run other : Run) (same : run.words ≡ other.words) (f
 -- what is due where a cause stands
 module _ (does : Command → Bool) (words : List (List ℕ)) (files : Files) where
   due_answer : (run : Run) (ending : Ending) → EndsInAnswer ending → AreAsked does words run.words
-      → ReadsBoth (Some files) run → IsSmall run.words.command run → IsDue does words ending files
-  due_answer run ending is asked reads few = record {
+      → ReadsBoth (Some files) run → IsDue does words ending files
+  due_answer run ending is asked reads = record {
     refused = λ other file place rule named cause. absurd (unrefused files run other
-        (one_command does words run.words other.words asked named) file place rule reads few cause);
+        (one_command does words run.words other.words asked named) file place rule reads cause);
     missing = λ other file named cause. absurd (unmissed files run other
         (one_command does words run.words other.words asked named) file reads cause);
-    answered = λ other named read small. inl is;
+    ended = λ other named read. inl is;
+    answered = λ other named read ample. inl is;
+  }
+
+  due_spent : (run : Run) (ending : Ending) → EndsSpent ending → AreAsked does words run.words
+      → EndsSo (Some files) run ending → IsDue does words ending files
+  due_spent run ending is asked h = record {
+    refused = λ other file place rule named cause. absurd (unrefused files run other
+        (one_command does words run.words other.words asked named) file place rule h.finishes.reads cause);
+    missing = λ other file named cause. absurd (unmissed files run other
+        (one_command does words run.words other.words asked named) file h.finishes.reads cause);
+    ended = λ other named read. inr (inl is);
+    answered = λ other named read ample. absurd (spent_scarce files run other
+        (one_command does words run.words other.words asked named) ending h is read ample);
   }
 
   due_first : (ending : Ending) → ComesFirst ending → IsDue does words ending files
   due_first ending is = record {
     refused = λ other file place rule named cause. inr is;
     missing = λ other file named cause. inr is;
-    answered = λ other named read small. inr is;
+    ended = λ other named read. inr (inr is);
+    answered = λ other named read ample. inr is;
   }
 
   due_none : (ending : Ending) → AreRefused does words → IsDue does words ending files
   due_none ending none = record {
     refused = λ other file place rule named cause. absurd (none other.words named);
     missing = λ other file named cause. absurd (none other.words named);
-    answered = λ other named read small. absurd (none other.words named);
+    ended = λ other named read. absurd (none other.words named);
+    answered = λ other named read ample. absurd (none other.words named);
   }
 
   due_refusal : (run : Run) (file : List ℕ) (place : Place) (rule : List ℕ) → AreAsked does words run.words
@@ -287,8 +343,10 @@ module _ (does : Command → Bool) (words : List (List ℕ)) (files : Files) whe
         (one_command does words run.words other.words asked named) file file' place place' rule rule' h cause);
     missing = λ other file' named cause. absurd (refused_unmissed files run other
         (one_command does words run.words other.words asked named) file file' place rule h cause);
-    answered = λ other named read small. absurd (unrefused files other run
-        (one_command does words other.words run.words named asked) file place rule read small h);
+    ended = λ other named read. absurd (unrefused files other run
+        (one_command does words other.words run.words named asked) file place rule read h);
+    answered = λ other named read ample. absurd (unrefused files other run
+        (one_command does words other.words run.words named asked) file place rule read h);
   }
 
   due_missing : (run : Run) (file : List ℕ) → AreAsked does words run.words → IsMissing (Some files) run file
@@ -299,20 +357,22 @@ module _ (does : Command → Bool) (words : List (List ℕ)) (files : Files) whe
     missing = λ other file' named cause. inl (ap (λ (name : List ℕ). Missing name)
         (one_missing files run other (one_command does words run.words other.words asked named) file file' AsWhole
         AsWhole [] [] h cause));
-    answered = λ other named read small. absurd (unmissed files other run
+    ended = λ other named read. absurd (unmissed files other run
+        (one_command does words other.words run.words named asked) file read h);
+    answered = λ other named read ample. absurd (unmissed files other run
         (one_command does words other.words run.words named asked) file read h);
   }
 
   due_at : (run : Run) (ending : Ending) → HasCause does words (Some files) run ending → IsDue does words ending files
-  due_at run Done h = due_answer run Done tt h.0 h.1.0.reads h.1.0.small
-  due_at run NoPoint h = due_answer run NoPoint tt h.0 h.1.0.reads h.1.0.small
+  due_at run Done h = due_answer run Done tt h.0 h.1.finishes.reads
+  due_at run NoPoint h = due_answer run NoPoint tt h.0 h.1.finishes.reads
   due_at run BadWords h = due_none BadWords h
   due_at run (BadText file place rule) h = due_refusal run file place rule h.0 h.1
-  due_at run (NodesSpent budget made) h = absurd h.1
-  due_at run (FollowerSpent budget made link) h = absurd h.1
+  due_at run (NodesSpent budget made) h = due_spent run (NodesSpent budget made) tt h.0 h.1
+  due_at run (FollowerSpent budget made link) h = due_spent run (FollowerSpent budget made link) tt h.0 h.1
   due_at run (ReadFault file) h = due_first (ReadFault file) tt
   due_at run (WriteFault (ToFile name)) h = absurd h.1
-  due_at run (WriteFault ToOutput) h = due_answer run (WriteFault ToOutput) tt h.0 h.1.reads h.1.small
+  due_at run (WriteFault ToOutput) h = due_answer run (WriteFault ToOutput) tt h.0 h.1.0.reads
   due_at run OutOfMemory h = due_first OutOfMemory tt
   due_at run (NotAccepted file line rule) h = absurd h.1
   due_at run (Missing file) h = due_missing run file h.0 h.1

@@ -1,5 +1,5 @@
 -- What a line in pieces leaves on a sink, by how far it came.
-use Rattle.std.proofs.Common.{◌≡◌, ℕ, ◌+◌, ◌<◌, List, ◌∷◌, ◌++◌, length, take, drop, get_or, Bor, sym, ap, subst, ◌∙◌}
+use Rattle.std.proofs.Common.{◌≡◌, ℕ, ◌+◌, ◌<◌, List, ◌∷◌, ◌++◌, length, take, drop, get_or, sym, ap, subst, ◌∙◌}
 use Rattle.std.proofs.Common.{inl, inr, add-one, drop-cons, append_assoc, codes}
 use Rattle.std.specs.Prelude.{Some, Ok, Err}
 use Rattle.std.specs.declared.result.Result.{Result}
@@ -36,37 +36,34 @@ puts_then (Err e) line more old middle new put same h = (
   subst (λ (n : ℕ). Grew n new.faults) same h.1,
 )
 
--- the bytes of pieces one after the other
-abbrev joined : List (Bor (List ℕ)) → List ℕ
-joined pieces = flat_map (λ (piece : Bor (List ℕ)). piece.now) pieces
+-- what is put of things one after the other: the texts of those before a place, of the one there, and of those behind
+module _ {X : Type 0} (text : X → List ℕ) where
+  abbrev joined : List X → List ℕ
+  joined xs = flat_map text xs
 
--- the pieces are those before a place, the piece there, and those behind it
-split_at : (pieces : List (Bor (List ℕ))) (i : ℕ) (d : Bor (List ℕ)) → i < length pieces
-    → joined pieces ≡ joined (take i pieces) ++ ((get_or pieces i d).now ++ joined (drop (i + 1) pieces))
-split_at pieces i d below =
-    let cut : drop i pieces ≡ get_or pieces i d ∷ drop (i + 1) pieces = rw add-one (drop-cons pieces i d below) in
-    ap joined (sym (take-append-drop i pieces)) ∙ (flat_map-append (λ (piece : Bor (List ℕ)). piece.now)
-    (take i pieces) (drop i pieces)
-    ∙ ap (λ (rest : List (Bor (List ℕ))). joined (take i pieces) ++ joined rest) cut)
+  split_at : (xs : List X) (i : ℕ) (d : X) → i < length xs
+      → joined xs ≡ joined (take i xs) ++ (text (get_or xs i d) ++ joined (drop (i + 1) xs))
+  split_at xs i d below =
+      let cut : drop i xs ≡ get_or xs i d ∷ drop (i + 1) xs = rw add-one (drop-cons xs i d below) in
+      ap joined (sym (take-append-drop i xs)) ∙ (flat_map-append text (take i xs) (drop i xs)
+      ∙ ap (λ (rest : List X). joined (take i xs) ++ joined rest) cut)
 
--- the piece at a place wasn't taken whole
-pub stopped_at : (pieces : List (Bor (List ℕ))) (i : ℕ) (d piece : Bor (List ℕ)) (old middle new : SinkState)
-    → i < length pieces → piece ≡ get_or pieces i d
-    → Told (Adds (joined (take i pieces))) old.bytes middle.bytes → middle.faults ≡ old.faults
-    → Told (AddsPrefix piece.now) middle.bytes new.bytes → Grew middle.faults new.faults
-    → Told (AddsPrefix (joined pieces)) old.bytes new.bytes × Grew old.faults new.faults
-stopped_at pieces i d piece old middle new below is put same part grew =
-    let rest : List ℕ = joined (drop (i + 1) pieces) in
-    let whole : joined pieces ≡ joined (take i pieces) ++ (piece.now ++ rest) =
-    split_at pieces i d below ∙ ap (λ (p : Bor (List ℕ)). joined (take i pieces) ++
-    (p.now ++ joined (drop (i + 1) pieces))) (sym is) in (
-      subst (λ (line : List ℕ). Told (AddsPrefix line) old.bytes new.bytes) (sym whole)
-          (Told_then (Adds (joined (take i pieces))) (AddsPrefix (piece.now ++ rest))
-          (AddsPrefix (joined (take i pieces) ++ (piece.now ++ rest)))
-          (λ s t u a b. Adds_then_prefix (joined (take i pieces)) (piece.now ++ rest) s t u a b)
-          old.bytes middle.bytes new.bytes put (cut_short piece.now rest middle new part)),
-      subst (λ (n : ℕ). Grew n new.faults) same grew,
-    )
+  -- the text at a place wasn't taken whole
+  pub stopped_at : (xs : List X) (i : ℕ) (d x : X) (old middle new : SinkState) → i < length xs → x ≡ get_or xs i d
+      → Told (Adds (joined (take i xs))) old.bytes middle.bytes → middle.faults ≡ old.faults
+      → Told (AddsPrefix (text x)) middle.bytes new.bytes → Grew middle.faults new.faults
+      → Told (AddsPrefix (joined xs)) old.bytes new.bytes × Grew old.faults new.faults
+  stopped_at xs i d x old middle new below is put same part grew =
+      let rest : List ℕ = joined (drop (i + 1) xs) in
+      let whole : joined xs ≡ joined (take i xs) ++ (text x ++ rest) =
+      split_at xs i d below ∙ ap (λ (y : X). joined (take i xs) ++ (text y ++ joined (drop (i + 1) xs))) (sym is) in (
+        subst (λ (line : List ℕ). Told (AddsPrefix line) old.bytes new.bytes) (sym whole)
+            (Told_then (Adds (joined (take i xs))) (AddsPrefix (text x ++ rest))
+            (AddsPrefix (joined (take i xs) ++ (text x ++ rest)))
+            (λ s t u a b. Adds_then_prefix (joined (take i xs)) (text x ++ rest) s t u a b)
+            old.bytes middle.bytes new.bytes put (cut_short (text x) rest middle new part)),
+        subst (λ (n : ℕ). Grew n new.faults) same grew,
+      )
 
 -- what was put of a line is what tells it
 pub told : {T E : Type 0} (line : List ℕ) (r : Result T E) (old new : SinkState) → Puts line old new r
@@ -79,3 +76,21 @@ pub fault_pieces : (file rule : List ℕ) (place : Place)
     → codes "mibs: " ++ (file ++ codes ": ") ++ (place_text place ++ (rule ++ codes "\n")) ≡ file_line file
     (place_text place ++ rule)
 fault_pieces file rule place = simp append_assoc
+
+-- the pieces of the lines on spent budgets
+pub nodes_pieces : (budget made : List ℕ)
+    → codes "mibs: node budget " ++ (budget ++ (codes " spent with " ++ (made ++ codes " nodes\n")))
+    ≡ codes "mibs: node budget " ++ ((budget ++ (codes " spent with " ++ (made ++ codes " nodes"))) ++ codes "\n")
+nodes_pieces budget made = simp append_assoc
+
+pub head_pieces : (budget made : List ℕ)
+    → codes "mibs: follower budget " ++ (budget ++ (codes " spent with " ++ (made ++ codes " nodes at link")))
+    ≡ codes "mibs: follower budget "
+    ++ ((budget ++ (codes " spent with " ++ (made ++ codes " nodes"))) ++ codes " at link")
+head_pieces budget made = simp append_assoc
+
+-- the line on the follower's budget has the link behind its head
+pub follower_pieces : (spent link : List ℕ)
+    → (codes "mibs: follower budget " ++ (spent ++ codes " at link")) ++ (link ++ codes "\n")
+    ≡ codes "mibs: follower budget " ++ (spent ++ (codes " at link" ++ (link ++ codes "\n")))
+follower_pieces spent link = simp append_assoc

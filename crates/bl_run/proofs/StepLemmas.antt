@@ -12,6 +12,8 @@ use Rattle.bl_raw.specs.declared.raw.RawMps.{RawMps}
 use Rattle.bl_raw.specs.declared.raw.RawAux.{RawAux}
 use Rattle.bl_aux.specs.declared.fault.AuxRule.TheVariants.{TooLong}
 use Rattle.bl_aux.specs.Texts.{too_long}
+use Rattle.bl_model.specs.Build.{program_of}
+use Rattle.bl_core.specs.declared.outcome.Ended.TheVariants as ended
 use Rattle.bl_mps_terms.specs.declared.fault.MpsRule.TheVariants as mps
 use Rattle.bl_mps_terms.specs.Faults.{first_fault}
 use Rattle.std.proofs.lemmas.Bool.Decides.{nat_tests}
@@ -24,14 +26,13 @@ use Rattle.bl_words.specs.declared.commands.Command.TheVariants.{Solve, Show}
 use Rattle.bl_words.specs.Items.{AreModelWords}
 use Rattle.bl_run.specs.Words.{ModelWords, AreAsked, AreRefused, each_command, show_alone}
 use Rattle.bl_run.specs.Texts.{IsMpsText, IsMpsFault, IsAuxText, IsAuxFault}
-use Rattle.bl_run.specs.Report.{Statement}
-use Rattle.bl_run.specs.Report as report
 use Rattle.bl_run.specs.Endings.{Place, AsWhole, Ending, Done, NoPoint, BadWords, BadText, NodesSpent, FollowerSpent}
 use Rattle.bl_run.specs.Endings.{ReadFault, WriteFault, OutOfMemory, NotAccepted, Missing, ManyPoints, ToOutput}
-use Rattle.bl_run.specs.Solve.{Run, ReadsBoth, ReadsMps, IsSmall, IsRight, Finishes, printed_by, ending_by, IsCause}
+use Rattle.bl_run.specs.Solve.{Outcome, Run, ReadsBoth, ReadsMps, IsWorked, HasReport, Finishes, printed_by}
+use Rattle.bl_run.specs.Solve.{ending_by, EndsSo, IsCause}
 use Rattle.bl_run.specs.Promise.{Outside, HasCause, Prints, ReadFaultsAt, MissesAt, WriteFaultsAt, Leaves}
 use Rattle.bl_run.specs.Steps.{answer_ending, failure_ending, ReadsTo, HasText, FailsToRead, NoFault, IsTooLong}
-use Rattle.bl_run.specs.Steps.{FailsToSolve, Ends, EndsCommand}
+use Rattle.bl_run.specs.Steps.{IsSpent, FailsToSolve, Ends, EndsCommand}
 
 -- there is a longer text than any limit
 some_longer : (limit : ℕ) → (text : List ℕ) × (limit < length text)
@@ -52,6 +53,8 @@ pub unread : (files : Option Files) (name : List ℕ) (Bad : List ℕ → Place 
     → FailsToRead files name NoFault failure → FailsToRead files name Bad failure
 unread files name Bad failure.Words h = h
 unread files name Bad (failure.Text file fault) h = absurd h.1.is
+unread files name Bad (failure.NodesSpent budget made) h = h
+unread files name Bad (failure.FollowerSpent budget made link) h = h
 unread files name Bad (failure.ReadFault file) h = h
 unread files name Bad failure.WriteFault h = h
 unread files name Bad failure.Memory h = h
@@ -124,15 +127,39 @@ reads_then old middle new ending g h = record {
   misses = subst (λ (n : ℕ). MissesAt ending n new.misses) g.misses h.misses;
 }
 
--- a run of which the words alone are known
+-- a run of which nothing is known, or its words alone
+abbrev no_mps : RawMps
+no_mps = record { maximise = false; objective = []; rows = []; columns = [] }
+
+abbrev no_aux : RawAux
+no_aux = record { columns = []; rows = []; costs = []; sense = pos 1 }
+
+abbrev pub no_outcome : Outcome
+no_outcome = record {
+  book = record {
+    ledger = record {
+      book = record {
+        program = program_of no_mps no_aux;
+        workers = 0;
+        limit = 0;
+        nodes = [];
+        best = None;
+      };
+      journal = [];
+    };
+    spare = 0;
+  };
+  end = ended.Done;
+}
+
 abbrev run_of : ModelWords → Run
 run_of asked = record {
   words = asked;
   mps_text = [];
-  mps = record { maximise = false; objective = []; rows = []; columns = [] };
+  mps = no_mps;
   aux_text = [];
-  aux = record { columns = []; rows = []; costs = []; sense = pos 1 };
-  statement = report.None;
+  aux = no_aux;
+  outcome = no_outcome;
 }
 
 -- the failure isn't one of writing
@@ -152,6 +179,20 @@ left run old new out failure.Words is h = record {
   files = h.reads.contents;
 }
 left run old new out (failure.Text file fault) is h = record {
+  printed = refl;
+  read_faults = h.read_faults;
+  misses = h.misses;
+  write_faults = (h.reads.write_faults, refl);
+  files = h.reads.contents;
+}
+left run old new out (failure.NodesSpent budget made) is h = record {
+  printed = refl;
+  read_faults = h.read_faults;
+  misses = h.misses;
+  write_faults = (h.reads.write_faults, refl);
+  files = h.reads.contents;
+}
+left run old new out (failure.FollowerSpent budget made link) is h = record {
   printed = refl;
   read_faults = h.read_faults;
   misses = h.misses;
@@ -206,6 +247,8 @@ module _ (asked : ModelWords) (old new : ShelfState) (out : SinkState) where
   mps_stops (failure.Text file fault) why h =
       ended_by (record (run_of asked) { mps_text = why.1.text }) (failure.Text file fault) refl tt
       (inl (record { named = why.0; held = why.1.held; fault = why.1.is })) h
+  mps_stops (failure.NodesSpent budget made) why h = absurd why
+  mps_stops (failure.FollowerSpent budget made link) why h = absurd why
   mps_stops (failure.ReadFault file) why h = ended_by (run_of asked) (failure.ReadFault file) refl tt (inl why) h
   mps_stops failure.WriteFault why h = absurd why
   mps_stops failure.Memory why h = ended_by (run_of asked) failure.Memory refl tt tt h
@@ -229,12 +272,14 @@ module _ (asked : ModelWords) (old middle new : ShelfState) (out : SinkState) (m
   stopped failure.Words why h = absurd why
   stopped (failure.Text file fault) why h =
       ended_by asked old new out (record read_run { aux_text = why.1.text }) (failure.Text file fault) refl tt
-      (inr (inl (record {
+      (inr (record {
         named = why.0;
         mps = record { held = read.held; says = read.is };
         held = why.1.held;
         fault = why.1.is;
-      }))) h
+      })) h
+  stopped (failure.NodesSpent budget made) why h = absurd why
+  stopped (failure.FollowerSpent budget made link) why h = absurd why
   stopped (failure.ReadFault file) why h = ended_by asked old new out read_run (failure.ReadFault file) refl tt
       (inr (why, reads_mps)) h
   stopped failure.WriteFault why h = absurd why
@@ -261,18 +306,18 @@ module _ (asked : ModelWords) (old middle new : ShelfState) (mps : RawMps) (aux 
     (quiet : ReadsTo Done old middle)
     (aux_read : HasText middle.contents asked.aux (λ text. IsAuxText mps text aux))
     (still : ReadsTo Done middle new) where
-  abbrev both_run : Statement → Run
-  both_run statement = record {
+  abbrev both_run : Outcome → Run
+  both_run outcome = record {
     words = asked;
     mps_text = mps_read.text;
     mps = mps;
     aux_text = aux_read.text;
     aux = aux;
-    statement = statement;
+    outcome = outcome;
   }
 
-  reads_both : (statement : Statement) → ReadsBoth old.contents (both_run statement)
-  reads_both statement = record {
+  reads_both : (outcome : Outcome) → ReadsBoth old.contents (both_run outcome)
+  reads_both outcome = record {
     mps = record { held = mps_read.held; says = mps_read.is };
     held = subst (λ (files : Option Files). IfTold files (λ told. Holds told asked.aux aux_read.text))
         quiet.reads.contents aux_read.held;
@@ -285,25 +330,35 @@ module _ (asked : ModelWords) (old middle new : ShelfState) (mps : RawMps) (aux 
   -- there was no memory for the rest
   pub memory_stops : (out : SinkState)
       → Ends asked (record { files = old; out = out }) (record { files = new; out = out }) OutOfMemory
-  memory_stops out = ended_by asked old new out (both_run report.None) failure.Memory refl tt tt all_quiet
+  memory_stops out = ended_by asked old new out (both_run no_outcome) failure.Memory refl tt tt all_quiet
     where
       all_quiet : ReadsTo OutOfMemory old new
       all_quiet = record { reads = all_read.reads; read_faults = all_read.read_faults; misses = all_read.misses }
 
+  -- the search spent a budget
+  spent : (ending : Ending) (why : IsSpent (program_of mps aux) asked ending) → asked.command ≡ Solve
+      → EndsSo old.contents (both_run why.outcome) ending
+  spent ending why solves = record {
+    finishes = record {
+      reads = reads_both why.outcome;
+      worked = subst (λ (c : Command). IsWorked c (both_run why.outcome)) (sym solves) why.solved;
+    };
+    same = subst (λ (c : Command). ending_by c (both_run why.outcome) ≡ ending) (sym solves) why.same;
+  }
+
   -- the model wasn't solved
   pub solving_stops : (out : SinkState) (failure : Failure) → asked.command ≡ Solve
-      → FailsToSolve asked.mps mps aux failure
+      → FailsToSolve (program_of mps aux) asked failure
       → Ends asked (record { files = old; out = out }) (record { files = new; out = out }) (failure_ending failure)
   solving_stops out failure.Words solves why = absurd why
-  solving_stops out (failure.Text file fault) solves why =
-      ended_by asked old new out (both_run report.None) (failure.Text file fault) refl tt
-      (inr (inr (record {
-        solves = solves;
-        named = why.0;
-        reads = reads_both report.None;
-        large = why.2;
-        not_yet = why.1;
-      })))
+  solving_stops out (failure.Text file fault) solves why = absurd why
+  solving_stops out (failure.NodesSpent budget made) solves why =
+      ended_by asked old new out (both_run why.outcome) (failure.NodesSpent budget made) refl tt
+      (spent (NodesSpent budget made) why solves)
+      (record { reads = all_read.reads; read_faults = all_read.read_faults; misses = all_read.misses })
+  solving_stops out (failure.FollowerSpent budget made link) solves why =
+      ended_by asked old new out (both_run why.outcome) (failure.FollowerSpent budget made link) refl tt
+      (spent (FollowerSpent budget made link.items) why solves)
       (record { reads = all_read.reads; read_faults = all_read.read_faults; misses = all_read.misses })
   solving_stops out (failure.ReadFault file) solves why = absurd why
   solving_stops out failure.WriteFault solves why = absurd why
@@ -311,19 +366,19 @@ module _ (asked : ModelWords) (old middle new : ShelfState) (mps : RawMps) (aux 
   solving_stops out (failure.Missing file) solves why = absurd why
 
   -- the command did its work
-  module _ (out after : SinkState) (statement : Statement) (text : List ℕ)
-      (small : IsSmall asked.command (both_run statement)) (right : IsRight asked.command (both_run statement))
-      (spelled : text ≡ printed_by asked.command (both_run statement)) where
-    finishes : Finishes old.contents (both_run statement)
-    finishes = record { reads = reads_both statement; small = small; right = right }
+  module _ (out after : SinkState) (outcome : Outcome) (text : List ℕ)
+      (worked : IsWorked asked.command (both_run outcome)) (done : HasReport asked.command (both_run outcome))
+      (spelled : text ≡ printed_by asked.command (both_run outcome)) where
+    finishes : Finishes old.contents (both_run outcome)
+    finishes = record { reads = reads_both outcome; worked = worked }
 
     -- what it prints wasn't taken whole
     pub printing_stops : Told (AddsPrefix text) out.bytes after.bytes → Grew out.faults after.faults
         → Ends asked (record { files = old; out = out }) (record { files = new; out = after }) (WriteFault ToOutput)
     printing_stops printed grew = record {
-      run = both_run statement;
+      run = both_run outcome;
       words = refl;
-      cause = finishes;
+      cause = (finishes, done);
       leaves = record {
         printed = subst (λ (t : List ℕ). Told (AddsPrefix t) out.bytes after.bytes) spelled printed;
         read_faults = all_read.read_faults;
@@ -334,20 +389,20 @@ module _ (asked : ModelWords) (old middle new : ShelfState) (mps : RawMps) (aux 
     }
 
     -- what it prints was printed
-    pub answered : (says : Answer) → ending_by asked.command (both_run statement) ≡ answer_ending says
+    pub answered : (says : Answer) → ending_by asked.command (both_run outcome) ≡ answer_ending says
         → Told (Adds text) out.bytes after.bytes → after.faults ≡ out.faults
         → Ends asked (record { files = old; out = out }) (record { files = new; out = after }) (answer_ending says)
     answered says same printed unfaulted = at says same
       where
-        line : Told (Adds (printed_by asked.command (both_run statement))) out.bytes after.bytes
+        line : Told (Adds (printed_by asked.command (both_run outcome))) out.bytes after.bytes
         line = subst (λ (t : List ℕ). Told (Adds t) out.bytes after.bytes) spelled printed
 
-        done : ending_by asked.command (both_run statement) ≡ Done
+        printed_so : ending_by asked.command (both_run outcome) ≡ Done
             → Ends asked (record { files = old; out = out }) (record { files = new; out = after }) Done
-        done e = record {
-          run = both_run statement;
+        printed_so e = record {
+          run = both_run outcome;
           words = refl;
-          cause = (finishes, e);
+          cause = record { finishes = finishes; same = e };
           leaves = record {
             printed = line;
             read_faults = all_read.read_faults;
@@ -357,14 +412,14 @@ module _ (asked : ModelWords) (old middle new : ShelfState) (mps : RawMps) (aux 
           };
         }
 
-        at : (a : Answer) → ending_by asked.command (both_run statement) ≡ answer_ending a
+        at : (a : Answer) → ending_by asked.command (both_run outcome) ≡ answer_ending a
             → Ends asked (record { files = old; out = out }) (record { files = new; out = after }) (answer_ending a)
-        at answer.Optimal e = done e
-        at answer.Shown e = done e
+        at answer.Optimal e = printed_so e
+        at answer.Shown e = printed_so e
         at answer.Infeasible e = record {
-          run = both_run statement;
+          run = both_run outcome;
           words = refl;
-          cause = (finishes, e);
+          cause = record { finishes = finishes; same = e };
           leaves = record {
             printed = line;
             read_faults = all_read.read_faults;
@@ -376,7 +431,8 @@ module _ (asked : ModelWords) (old middle new : ShelfState) (mps : RawMps) (aux 
 
 -- no run, of which nothing is known
 no_run : Run
-no_run = run_of (record { command = Show; mps = []; aux = []; default_upper = pos 0 })
+no_run =
+    run_of (record { command = Show; mps = []; aux = []; default_upper = pos 0; nodes = 0; follower_nodes = 0 })
 
 left_alone : (ending : Ending) (outside : Outside) → Prints no_run ending outside.out.bytes outside.out.bytes
     → ReadFaultsAt ending outside.files outside.files → MissesAt ending outside.files.misses outside.files.misses
@@ -428,27 +484,36 @@ command_ends does words asked old new ending these h = record {
   leaves = h.leaves;
 }
 
+-- no words are those of the command
+abbrev AreNone : Command → List (List ℕ) → Type 0
+AreNone command words = (mps aux : List ℕ) (upper : ℤ) (nodes follower_nodes : ℕ)
+    → AreModelWords command words mps aux upper nodes follower_nodes → ⊥
+
+-- what is asked, by the command
+abbrev AsksFor : Command → List (List ℕ) → ModelWords → Type 0
+AsksFor c words asked =
+    AreModelWords c words asked.mps asked.aux asked.default_upper asked.nodes asked.follower_nodes
+
+none_asks : (c : Command) (words : List (List ℕ)) (asked : ModelWords) → AreNone c words → AsksFor c words asked → ⊥
+none_asks c words asked none these =
+    none asked.mps asked.aux asked.default_upper asked.nodes asked.follower_nodes these
+
 -- words that don't ask for `show` ask for nothing that it does
-pub unshown : (words : List (List ℕ))
-    → ((mps aux : List ℕ) (upper : ℤ) → AreModelWords Show words mps aux upper → ⊥) → AreRefused show_alone words
+pub unshown : (words : List (List ℕ)) → AreNone Show words → AreRefused show_alone words
 unshown words none asked h = by_command asked.command h.0 h.1
   where
-    by_command : (c : Command) → show_alone c ≡ true
-        → AreModelWords c words asked.mps asked.aux asked.default_upper → ⊥
+    by_command : (c : Command) → show_alone c ≡ true → AsksFor c words asked → ⊥
     by_command Solve e these = cc
-    by_command Show e these = none asked.mps asked.aux asked.default_upper these
+    by_command Show e these = none_asks Show words asked none these
 
 -- words that don't ask for `solve`, and what `show` alone does with them
-module _ (words : List (List ℕ))
-    (unsolved : (mps aux : List ℕ) (upper : ℤ) → AreModelWords Solve words mps aux upper → ⊥) where
+module _ (words : List (List ℕ)) (unsolved : AreNone Solve words) where
   none_asked : AreRefused show_alone words → AreRefused each_command words
   none_asked none asked h = by_command asked.command refl h.1
     where
-      by_command : (c : Command) → asked.command ≡ c
-          → AreModelWords asked.command words asked.mps asked.aux asked.default_upper → ⊥
+      by_command : (c : Command) → asked.command ≡ c → AsksFor asked.command words asked → ⊥
       by_command Solve e these =
-          unsolved asked.mps asked.aux asked.default_upper
-          (subst (λ (c : Command). AreModelWords c words asked.mps asked.aux asked.default_upper) e these)
+          none_asks Solve words asked unsolved (subst (λ (c : Command). AsksFor c words asked) e these)
       by_command Show e these = none asked (ap show_alone e, these)
 
   widened : (files : Option Files) (run : Run) (ending : Ending) → HasCause show_alone words files run ending

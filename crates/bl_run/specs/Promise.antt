@@ -7,8 +7,8 @@ use Rattle.bl_outer.specs.Sink.{SinkState, Adds, AddsPrefix}
 use Rattle.bl_words.specs.declared.commands.Command.{Command}
 use Rattle.bl_run.specs.Words.{AreAsked, AreRefused}
 use Rattle.bl_run.specs.Endings.{Place, ToFile, ToOutput, Ending, Done, NoPoint, BadWords, BadText, ReadFault}
-use Rattle.bl_run.specs.Endings.{WriteFault, OutOfMemory, Missing, status_of, line_of}
-use Rattle.bl_run.specs.Solve.{Run, report, ReadsBoth, IsSmall, RefusesText, IsMissing, IsCause}
+use Rattle.bl_run.specs.Endings.{NodesSpent, FollowerSpent, WriteFault, OutOfMemory, Missing, status_of, line_of}
+use Rattle.bl_run.specs.Solve.{Run, report, ReadsBoth, IsAmple, RefusesText, IsMissing, IsCause}
 
 -- what a command works on: the files and the output
 pub record Outside : Type 0 where
@@ -34,16 +34,26 @@ EndsInAnswer NoPoint = ⊤
 EndsInAnswer (WriteFault target) = ⊤
 EndsInAnswer _ = ⊥
 
--- a cause that stands in the files gives its ending
+-- a budget that was spent
+abbrev pub EndsSpent : Ending → Type 0
+EndsSpent (NodesSpent budget made) = ⊤
+EndsSpent (FollowerSpent budget made link) = ⊤
+EndsSpent _ = ⊥
+
+-- a cause that stands in the files gives its ending: texts that are read are answered, or a budget is spent, which
+-- ample ones never are
 pub record IsDue (does : Command → Bool) (words : List (List ℕ)) (ending : Ending) (files : Files) : Type 0 where
   pub refused : (run : Run) (file : List ℕ) (place : Place) (rule : List ℕ)
       → AreAsked does words run.words → RefusesText (Some files) run file place rule
       → (ending ≡ BadText file place rule) ⊎ ComesFirst ending
   pub missing : (run : Run) (file : List ℕ)
       → AreAsked does words run.words → IsMissing (Some files) run file → (ending ≡ Missing file) ⊎ ComesFirst ending
+  pub ended : (run : Run)
+      → AreAsked does words run.words → ReadsBoth (Some files) run
+      → EndsInAnswer ending ⊎ (EndsSpent ending ⊎ ComesFirst ending)
   pub answered : (run : Run)
       → AreAsked does words run.words → ReadsBoth (Some files) run
-      → IsSmall run.words.command run → EndsInAnswer ending ⊎ ComesFirst ending
+      → IsAmple run.words.command run → EndsInAnswer ending ⊎ ComesFirst ending
 
 -- what the ending leaves on the output: the report, some first bytes of it, or nothing
 abbrev pub Prints : Run → Ending → Option (List ℕ) → Option (List ℕ) → Type 0

@@ -1,14 +1,16 @@
 -- Trusted: an answer to a program, and the report of it.
-use Rattle.std.specs.Prelude.{ℕ, List, [], ◌∷◌, ◌++◌, ℤ, ◌*ℤ◌, codes}
+use Rattle.std.specs.Prelude.{ℕ, List, [], ◌∷◌, ◌++◌, ℤ, ◌*ℤ◌, codes, Option}
 use Rattle.std.specs.Fmt.{decimal, signed_decimal}
 use Rattle.std.specs.List.{flat_map}
+use Rattle.std.specs.Option.{option_map_or}
 use Rattle.bl_raw.specs.declared.raw.RawColumn.{RawColumn}
 use Rattle.bl_raw.specs.declared.raw.RawMps.{RawMps}
 use Rattle.bl_raw.specs.declared.raw.RawAux.{RawAux}
 use Rattle.bl_aux.specs.Canonical.{aux_text}
 use Rattle.bl_mps_write.specs.Canonical.{mps_text}
-use Rattle.bl_terms.specs.Programs.{Program, follower_at}
+use Rattle.bl_terms.specs.Programs.{Program, value_at, follower_at}
 use Rattle.bl_terms.specs.Feasible.{Optimal, Infeasible}
+use Rattle.bl_leaf_terms.specs.Incumbents.{Incumbent}
 
 -- a statement of a program: a point is optimal with a value, or there is no bilevel feasible point
 pub data Statement : Type 0 where
@@ -19,6 +21,10 @@ pub data Statement : Type 0 where
 abbrev pub Answers : Program → Statement → Type 0
 Answers p (Best z v) = Optimal p z v
 Answers p None = Infeasible p
+
+-- what a search states that is done: its best incumbent is optimal, and without one there is no bilevel feasible point
+abbrev pub statement_of : Program → Option Incumbent → Statement
+statement_of p best = option_map_or (λ f. Best f.point (value_at p f.point)) best None
 
 -- `column NAME VALUE`
 abbrev pub column_line : RawColumn → ℤ → List ℕ

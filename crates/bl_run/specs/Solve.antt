@@ -1,37 +1,55 @@
 -- Trusted: one run of a command, step by step, and the cause of each ending.
-use Rattle.std.specs.Prelude.{◌≡◌, ◌⊎◌, ℕ, ◌<◌, ◌≤◌, List, Option, ⊤}
+use Rattle.std.specs.Prelude.{◌≡◌, ◌⊎◌, ◌+◌, ◌*◌, ◌≤◌, ℕ, List, length, Option, ⊤}
+use Rattle.std.specs.Option.{option_map_or}
 use Rattle.bl_outer.specs.Files.{Files, Holds, IsAbsent, IfTold}
 use Rattle.bl_raw.specs.declared.raw.RawMps.{RawMps}
 use Rattle.bl_raw.specs.declared.raw.RawAux.{RawAux}
 use Rattle.bl_model.specs.Build.{program_of}
 use Rattle.bl_terms.specs.Programs.{Program, root}
 use Rattle.bl_terms.specs.Trees.{point_count}
+use Rattle.bl_terms.specs.FollowerProofs.{follower_box}
+use Rattle.bl_follower.specs.Exhausted.{IsExhausted}
+use Rattle.bl_book_terms.specs.Books.{Book}
+use Rattle.bl_book_terms.specs.Laws.{IsSound}
+use Rattle.bl_core.specs.Accounts.{IsKept}
+use Rattle.bl_core.specs.declared.outcome.Ended.{Ended}
+use Rattle.bl_core.specs.declared.outcome.Ended.TheVariants as ended
+use Rattle.bl_core.specs.Outcomes as search
+use Rattle.bl_team.specs.declared.settings.Settings.{Settings}
+use Rattle.bl_team.specs.Answers.{IsOutcomeFor}
 use Rattle.bl_words.specs.declared.commands.Command.{Command}
 use Rattle.bl_words.specs.declared.commands.Command.TheVariants.{Solve, Show}
 use Rattle.bl_run.specs.Words.{ModelWords}
-use Rattle.bl_run.specs.Texts.{IsMpsText, IsMpsFault, IsAuxText, IsAuxFault, IsNotYet}
-use Rattle.bl_run.specs.Report.{Statement, Best, None, Answers, report_of, show_text}
+use Rattle.bl_run.specs.Texts.{IsMpsText, IsMpsFault, IsAuxText, IsAuxFault}
+use Rattle.bl_run.specs.Report.{Statement, Answers, statement_of, report_of, show_text}
 use Rattle.bl_run.specs.Endings.{Place, ToFile, ToOutput, Ending, Done, NoPoint, BadWords, BadText, NodesSpent}
 use Rattle.bl_run.specs.Endings.{FollowerSpent, ReadFault, WriteFault, OutOfMemory, NotAccepted, Missing, ManyPoints}
-use Rattle.bl_limits.specs.declared.TheConstants.{MAX_WALK_POINTS}
 
--- One run: its words, the texts of its files, what they say, and the statement that answers them. All that is promised
--- of a command is said of one run. Of a run that ended early, what it didn't come to is left open.
+-- a search that has ended: its book, and why it ended
+abbrev pub Outcome : Type 0
+Outcome = search.Ending
+
+-- One run: its words, the texts of its files, what they say, and the outcome of the search over them. All that is
+-- promised of a command is said of one run. Of a run that ended early, what it didn't come to is left open.
 pub record Run : Type 0 where
   pub words : ModelWords
   pub mps_text : List ℕ
   pub mps : RawMps
   pub aux_text : List ℕ
   pub aux : RawAux
-  pub statement : Statement
+  pub outcome : Outcome
 
 -- the program that the two texts make
 abbrev pub program : Run → Program
 program run = program_of run.mps run.aux
 
+-- what the outcome states where its search is done
+abbrev pub statement : Run → Statement
+statement run = statement_of (program run) run.outcome.book.ledger.book.best
+
 -- what the command prints: the report of the answer, or the texts
 abbrev pub printed_by : Command → Run → List ℕ
-printed_by Solve run = report_of run.mps.columns (program run) run.statement
+printed_by Solve run = report_of run.mps.columns (program run) (statement run)
 printed_by Show run = show_text run.mps run.aux (program run)
 
 abbrev pub report : Run → List ℕ
@@ -56,21 +74,53 @@ pub record ReadsBoth (files : Option Files) (run : Run) : Type 0 where
   pub held : HasAux files run
   pub says : IsAuxText run.mps run.aux_text run.aux
 
--- `solve` needs a box with few enough points to be walked
-abbrev pub IsSmall : Command → Run → Type 0
-IsSmall Solve run = point_count (root (program run)) ≤ MAX_WALK_POINTS
-IsSmall Show run = ⊤
+-- the search of the words: one worker, and their budgets
+abbrev pub settings_of : ModelWords → Settings
+settings_of words = record { workers = 1; nodes = words.nodes; follower_nodes = words.follower_nodes }
 
--- and a statement that answers the program
-abbrev pub IsRight : Command → Run → Type 0
-IsRight Solve run = Answers (program run) run.statement
-IsRight Show run = ⊤
+-- a budget of nodes is spent: as many were made, or one less, since a split makes two
+pub record AreSpent (budget made : ℕ) : Type 0 where
+  pub most : made ≤ budget
+  pub least : budget ≤ made + 1
 
--- both texts are read, and the command can do its work and did
+-- what shows that a budget of the words is spent: the nodes of the tree; or those of the follower's tree at a link,
+-- whose licences hold and of which a leaf of several points is left
+abbrev pub ShowsSpent : ModelWords → Book → Ended → Type 0
+ShowsSpent words b ended.Done = ⊤
+ShowsSpent words b (ended.Nodes node why) = AreSpent words.nodes (length b.nodes)
+ShowsSpent words b (ended.Follower spent) = IsExhausted spent × AreSpent words.follower_nodes (length spent.nodes)
+
+-- The outcome is one of the program with one worker and the budgets of the words. Its journal has only steps that were
+-- allowed, so that its nodes are a tree over the program's box, with a licence for each that is split and a proof for
+-- each that is closed. Its end has its cause. Where the search is done, what it states is right.
+pub record IsSolved (p : Program) (words : ModelWords) (o : Outcome) : Type 0 where
+  pub found : IsOutcomeFor p 1 (settings_of words) o
+  pub kept : IsKept o.book.ledger
+  pub sound : IsSound o.book.ledger.book
+  pub cause : search.IsCause o.book.ledger o.end
+  pub spent : ShowsSpent words o.book.ledger.book o.end
+  pub right : o.end ≡ ended.Done → Answers p (statement_of p o.book.ledger.book.best)
+
+-- what the command did with the program: `solve` searches
+abbrev pub IsWorked : Command → Run → Type 0
+IsWorked Solve run = IsSolved (program run) run.words run.outcome
+IsWorked Show run = ⊤
+
+-- both texts are read, and the command did its work
 pub record Finishes (files : Option Files) (run : Run) : Type 0 where
   pub reads : ReadsBoth files run
-  pub small : IsSmall run.words.command run
-  pub right : IsRight run.words.command run
+  pub worked : IsWorked run.words.command run
+
+-- there is something to print: the search of `solve` is done
+abbrev pub HasReport : Command → Run → Type 0
+HasReport Solve run = run.outcome.end ≡ ended.Done
+HasReport Show run = ⊤
+
+-- budgets that no search spends: each is at least twice the points of its box less one
+abbrev pub IsAmple : Command → Run → Type 0
+IsAmple Solve run = (2 * point_count (root (program run)) ≤ run.words.nodes + 1)
+    × (2 * point_count (follower_box (program run)) ≤ run.words.follower_nodes + 1)
+IsAmple Show run = ⊤
 
 -- the MPS text breaks the rule
 pub record RefusesMps (files : Option Files) (run : Run) (file : List ℕ) (place : Place) (rule : List ℕ) : Type 0 where
@@ -85,18 +135,10 @@ pub record RefusesAux (files : Option Files) (run : Run) (file : List ℕ) (plac
   pub held : HasAux files run
   pub fault : IsAuxFault run.mps run.aux_text place rule
 
--- both texts are read, and the box has too many points for `solve` to walk
-pub record RefusesBox (files : Option Files) (run : Run) (file : List ℕ) (place : Place) (rule : List ℕ) : Type 0 where
-  pub solves : run.words.command ≡ Solve
-  pub named : file ≡ run.words.mps
-  pub reads : ReadsBoth files run
-  pub large : MAX_WALK_POINTS < point_count (root (program run))
-  pub not_yet : IsNotYet place rule
-
 -- the first text that breaks a rule is this file's, at this place and by this rule
 abbrev pub RefusesText : Option Files → Run → List ℕ → Place → List ℕ → Type 0
 RefusesText files run file place rule =
-    RefusesMps files run file place rule ⊎ (RefusesAux files run file place rule ⊎ RefusesBox files run file place rule)
+    RefusesMps files run file place rule ⊎ RefusesAux files run file place rule
 
 -- the file is the one that is to be read next: the MPS file, or the auxiliary file once the MPS text is read
 abbrev pub IsNext : Option Files → Run → List ℕ → Type 0
@@ -107,27 +149,36 @@ pub record IsMissing (files : Option Files) (run : Run) (file : List ℕ) : Type
   pub next : IsNext files run file
   pub absent : IfTold files (λ told. IsAbsent told file)
 
--- the ending with a statement
-abbrev pub ending_of : Statement → Ending
-ending_of (Best z v) = Done
-ending_of None = NoPoint
+-- the ending of a search that ended so: with an answer, or with a budget of the words that was spent
+abbrev pub ending_at : ModelWords → Book → Ended → Ending
+ending_at words b ended.Done = option_map_or (λ f. Done) b.best NoPoint
+ending_at words b (ended.Nodes node why) = NodesSpent words.nodes (length b.nodes)
+ending_at words b (ended.Follower spent) = FollowerSpent words.follower_nodes (length spent.nodes) spent.link
 
--- the ending of a command that finished
+abbrev pub ending_of : ModelWords → Outcome → Ending
+ending_of words o = ending_at words o.book.ledger.book o.end
+
+-- the ending of a command that did its work
 abbrev pub ending_by : Command → Run → Ending
-ending_by Solve run = ending_of run.statement
+ending_by Solve run = ending_of run.words run.outcome
 ending_by Show run = Done
+
+-- the command did its work, and this is its ending
+pub record EndsSo (files : Option Files) (run : Run) (ending : Ending) : Type 0 where
+  pub finishes : Finishes files run
+  pub same : ending_by run.words.command run ≡ ending
 
 -- why a run ended so. Want of memory comes freely; an ending that doesn't come yet has no cause.
 abbrev pub IsCause : Option Files → Run → Ending → Type 0
-IsCause files run Done = Finishes files run × (ending_by run.words.command run ≡ Done)
-IsCause files run NoPoint = Finishes files run × (ending_by run.words.command run ≡ NoPoint)
+IsCause files run Done = EndsSo files run Done
+IsCause files run NoPoint = EndsSo files run NoPoint
 IsCause files run BadWords = ⊥
 IsCause files run (BadText file place rule) = RefusesText files run file place rule
-IsCause files run (NodesSpent budget made) = ⊥
-IsCause files run (FollowerSpent budget made link) = ⊥
+IsCause files run (NodesSpent budget made) = EndsSo files run (NodesSpent budget made)
+IsCause files run (FollowerSpent budget made link) = EndsSo files run (FollowerSpent budget made link)
 IsCause files run (ReadFault file) = IsNext files run file
 IsCause files run (WriteFault (ToFile name)) = ⊥
-IsCause files run (WriteFault ToOutput) = Finishes files run
+IsCause files run (WriteFault ToOutput) = Finishes files run × HasReport run.words.command run
 IsCause files run OutOfMemory = ⊤
 IsCause files run (NotAccepted file line rule) = ⊥
 IsCause files run (Missing file) = IsMissing files run file

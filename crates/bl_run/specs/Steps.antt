@@ -2,17 +2,17 @@
 use Rattle.std.specs.Prelude.{Bool, ℤ, pos, ◌≤ℤ◌, ◌≤◌, unsigned_abs, ◌≡◌, ℕ, ◌<◌, List, ◌++◌, length, Option, Ok, Err}
 use Rattle.std.specs.Prelude.{⊤, codes}
 use Rattle.std.specs.declared.result.Result.{Result}
+use Rattle.std.specs.Fmt.{signed_decimal}
+use Rattle.std.specs.List.{flat_map}
+use Rattle.std.specs.Option.{option_map_or}
 use Rattle.bl_outer.specs.Count.{Grew}
 use Rattle.bl_outer.specs.Files.{Files, IfTold, Told, IsAbsent}
 use Rattle.bl_outer.specs.Files as outer
 use Rattle.bl_outer.specs.Shelf.{ShelfState, OnlyReads}
 use Rattle.bl_outer.specs.Sink.{SinkState, Adds, AddsPrefix}
 use Rattle.bl_raw.specs.declared.raw.RawColumn.{RawColumn}
-use Rattle.bl_raw.specs.declared.raw.RawMps.{RawMps}
-use Rattle.bl_raw.specs.declared.raw.RawAux.{RawAux}
-use Rattle.bl_model.specs.Build.{program_of}
-use Rattle.bl_terms.specs.Programs.{Program, root}
-use Rattle.bl_terms.specs.Trees.{point_count}
+use Rattle.bl_terms.specs.Programs.{Program}
+use Rattle.bl_leaf_terms.specs.Incumbents.{Incumbent}
 use Rattle.bl_run.specs.declared.status.Answer.{Answer}
 use Rattle.bl_run.specs.declared.status.Answer.TheVariants as answer
 use Rattle.bl_run.specs.declared.status.Failure.{Failure}
@@ -22,16 +22,18 @@ use Rattle.bl_words.specs.declared.words.ShowWords as show
 use Rattle.bl_words.specs.declared.commands.Command.{Command}
 use Rattle.bl_words.specs.declared.commands.Command.TheVariants.{Solve, Show}
 use Rattle.bl_run.specs.Words.{ModelWords}
-use Rattle.bl_run.specs.Texts.{IsNotYet}
 use Rattle.bl_run.specs.declared.fault.TextFault.{TextFault}
 use Rattle.bl_run.specs.declared.fault.Place as place
 use Rattle.bl_run.specs.declared.fault.Place.TheVariants as variant
 use Rattle.bl_run.specs.Endings.{Place, AtLine, AtColumn, AsWhole, ToOutput, Ending, Done, NoPoint, BadWords, BadText}
-use Rattle.bl_run.specs.Endings.{ReadFault, WriteFault, OutOfMemory, Missing, place_text, file_line}
-use Rattle.bl_run.specs.Report.{Statement, Answers, report_of}
-use Rattle.bl_run.specs.Solve.{Run, ending_of, IsCause}
+use Rattle.bl_run.specs.Endings.{NodesSpent, FollowerSpent, ReadFault, WriteFault, OutOfMemory, Missing}
+use Rattle.bl_run.specs.Endings.{place_text, file_line, spent_text}
+use Rattle.bl_run.specs.Report.{statement_of, report_of}
+use Rattle.bl_run.specs.Solve.{Outcome, Run, IsSolved, ending_of, IsCause}
+use Rattle.bl_core.specs.declared.outcome.Ended.TheVariants as ended
 use Rattle.bl_run.specs.Promise.{Outside, HasCause, ReadFaultsAt, MissesAt, Leaves}
-use Rattle.bl_limits.specs.declared.TheConstants.{MAX_NUMBER, MAX_TEXT_BYTES, MAX_WALK_POINTS}
+use Rattle.bl_limits.specs.declared.TheConstants.{MAX_NUMBER, MAX_TEXT_BYTES, MAX_NODES}
+use Rattle.bl_limits.specs.declared.TheConstants.{MAX_FOLLOWER_NODES, DEFAULT_NODES, DEFAULT_FOLLOWER_NODES}
 
 -- the place of a fault
 abbrev pub place_of : place.Place → Place
@@ -49,6 +51,8 @@ answer_ending answer.Shown = Done
 abbrev pub failure_ending : Failure → Ending
 failure_ending failure.Words = BadWords
 failure_ending (failure.Text file fault) = BadText file.now (place_of fault.place) fault.rule.now
+failure_ending (failure.NodesSpent budget made) = NodesSpent budget made
+failure_ending (failure.FollowerSpent budget made link) = FollowerSpent budget made link.items
 failure_ending (failure.ReadFault file) = ReadFault file.now
 failure_ending failure.WriteFault = WriteFault ToOutput
 failure_ending failure.Memory = OutOfMemory
@@ -94,6 +98,8 @@ abbrev pub FailsToRead : Option Files → List ℕ → (List ℕ → Place → L
 FailsToRead files name Bad failure.Words = ⊥
 FailsToRead files name Bad (failure.Text file fault) = (file.now ≡ name)
     × HasText files name (λ text. Bad text (place_of fault.place) fault.rule.now)
+FailsToRead files name Bad (failure.NodesSpent budget made) = ⊥
+FailsToRead files name Bad (failure.FollowerSpent budget made link) = ⊥
 FailsToRead files name Bad (failure.ReadFault file) = file.now ≡ name
 FailsToRead files name Bad failure.WriteFault = ⊥
 FailsToRead files name Bad failure.Memory = ⊤
@@ -107,24 +113,56 @@ NoFault text place rule = ⊥
 abbrev pub IsTooLong : List ℕ → Type 0
 IsTooLong text = MAX_TEXT_BYTES < length text
 
--- the text reports this answer by a statement that holds of the program
-pub record IsReport (columns : List RawColumn) (p : Program) (answer : Answer) (text : List ℕ) : Type 0 where
-  pub statement : Statement
-  pub right : Answers p statement
-  pub same : ending_of statement ≡ answer_ending answer
-  pub spelled : text ≡ report_of columns p statement
+-- the search over the program has this outcome, which is done, with this answer and this report
+pub record IsReport (columns : List RawColumn) (p : Program) (words : ModelWords) (answer : Answer)
+    (text : List ℕ) : Type 0 where
+  pub outcome : Outcome
+  pub solved : IsSolved p words outcome
+  pub done : outcome.end ≡ ended.Done
+  pub same : ending_of words outcome ≡ answer_ending answer
+  pub spelled : text ≡ report_of columns p (statement_of p outcome.book.ledger.book.best)
 
--- why a model and its follower have no report: the box has too many points, for which the MPS file is named, or there
--- is no memory
-abbrev pub FailsToSolve : List ℕ → RawMps → RawAux → Failure → Type 0
-FailsToSolve name mps aux failure.Words = ⊥
-FailsToSolve name mps aux (failure.Text file fault) =
-    (file.now ≡ name) × IsNotYet (place_of fault.place) fault.rule.now
-    × (MAX_WALK_POINTS < point_count (root (program_of mps aux)))
-FailsToSolve name mps aux (failure.ReadFault file) = ⊥
-FailsToSolve name mps aux failure.WriteFault = ⊥
-FailsToSolve name mps aux failure.Memory = ⊤
-FailsToSolve name mps aux (failure.Missing file) = ⊥
+-- the search over the program has an outcome with this ending
+pub record IsSpent (p : Program) (words : ModelWords) (ending : Ending) : Type 0 where
+  pub outcome : Outcome
+  pub solved : IsSolved p words outcome
+  pub same : ending_of words outcome ≡ ending
+
+-- why a program has no report: a budget is spent, or there is no memory
+abbrev pub FailsToSolve : Program → ModelWords → Failure → Type 0
+FailsToSolve p words failure.Words = ⊥
+FailsToSolve p words (failure.Text file fault) = ⊥
+FailsToSolve p words (failure.NodesSpent budget made) = IsSpent p words (NodesSpent budget made)
+FailsToSolve p words (failure.FollowerSpent budget made link) = IsSpent p words (FollowerSpent budget made link.items)
+FailsToSolve p words (failure.ReadFault file) = ⊥
+FailsToSolve p words failure.WriteFault = ⊥
+FailsToSolve p words failure.Memory = ⊤
+FailsToSolve p words (failure.Missing file) = ⊥
+
+-- the answer and its report for a best incumbent
+pub record IsReportOf (columns : List RawColumn) (p : Program) (best : Option Incumbent) (answer : Answer)
+    (text : List ℕ) : Type 0 where
+  pub same : option_map_or (λ f. Done) best NoPoint ≡ answer_ending answer
+  pub spelled : text ≡ report_of columns p (statement_of p best)
+
+-- budgets within their limits
+pub record AreBudgets (nodes follower_nodes : ℕ) : Type 0 where
+  pub nodes_least : 1 ≤ nodes
+  pub nodes_most : nodes ≤ MAX_NODES
+  pub follower_least : 1 ≤ follower_nodes
+  pub follower_most : follower_nodes ≤ MAX_FOLLOWER_NODES
+
+-- the line on a spent budget of nodes
+abbrev pub nodes_line : ℕ → ℕ → List ℕ
+nodes_line budget made = codes "mibs: node budget " ++ (spent_text budget made ++ codes "\n")
+
+-- the line on a spent budget of the follower, up to the link
+abbrev pub follower_head : ℕ → ℕ → List ℕ
+follower_head budget made = codes "mibs: follower budget " ++ (spent_text budget made ++ codes " at link")
+
+-- the values of a link
+abbrev pub link_text : List ℤ → List ℕ
+link_text link = flat_map (λ value. codes " " ++ signed_decimal value) link
 
 -- a default upper bound within its limits
 abbrev pub IsDefaultUpper : ℤ → Type 0
@@ -132,12 +170,24 @@ IsDefaultUpper upper = (pos 0 ≤ℤ upper) × (unsigned_abs upper ≤ MAX_NUMBE
 
 -- what the words of a command ask for
 abbrev pub solve_asked : solve.SolveWords → ModelWords
-solve_asked asked =
-    record { command = Solve; mps = asked.mps.now; aux = asked.aux.now; default_upper = asked.default_upper }
+solve_asked asked = record {
+  command = Solve;
+  mps = asked.mps.now;
+  aux = asked.aux.now;
+  default_upper = asked.default_upper;
+  nodes = asked.nodes;
+  follower_nodes = asked.follower_nodes;
+}
 
 abbrev pub show_asked : show.ShowWords → ModelWords
-show_asked asked =
-    record { command = Show; mps = asked.mps.now; aux = asked.aux.now; default_upper = asked.default_upper }
+show_asked asked = record {
+  command = Show;
+  mps = asked.mps.now;
+  aux = asked.aux.now;
+  default_upper = asked.default_upper;
+  nodes = DEFAULT_NODES;
+  follower_nodes = DEFAULT_FOLLOWER_NODES;
+}
 
 -- a command was asked this, and ended so
 pub record Ends (asked : ModelWords) (old new : Outside) (ending : Ending) : Type 0 where

@@ -14,10 +14,6 @@ use Rattle.bl_aux.specs.Given.{Sizes, sizes_of}
 use Rattle.bl_aux.specs.Texts.{Says, IsFirstFault}
 use Rattle.bl_run.specs.Endings.{Place, AtLine, AtColumn, AsWhole}
 
--- what isn't solved yet is refused as a whole, by this rule
-abbrev pub IsNotYet : Place → List ℕ → Type 0
-IsNotYet place rule = (place ≡ AsWhole) × (rule ≡ codes "NotYet")
-
 -- lines count from 1, and 0 stands for the whole
 abbrev pub line_place : ℕ → Place
 line_place line = if line == 0 then AsWhole else AtLine line

@@ -22,14 +22,6 @@ pub(crate) struct TextFault {
     pub(crate) rule: &'static str,
 }
 
-impl TextFault {
-    /// What isn't read yet.
-    pub(crate) const NOT_YET: TextFault = TextFault {
-        place: Place::Whole,
-        rule: "NotYet",
-    };
-}
-
 /// The fault of an MPS text.
 pub(crate) fn mps_fault(fault: MpsFault) -> TextFault
     ensures place { place_of result.place ≡ mps_place fault }

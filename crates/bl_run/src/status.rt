@@ -1,7 +1,9 @@
 //! How the program ends.
 
+ghost use Rattle.std.specs.Prelude.{◌++◌, codes};
+ghost use Rattle.std.specs.Fmt.{signed_decimal};
 ghost use Rattle.std.specs.List.{flat_map};
-ghost use Rattle.bl_run.specs.Steps.{Puts, fault_line, rule_line};
+ghost use Rattle.bl_run.specs.Steps.{Puts, fault_line, rule_line, nodes_line, follower_head, link_text};
 
 use crate::fault::{Place, TextFault};
 use bl_outer::{Sink, SinkFail};
@@ -35,11 +37,21 @@ impl Answer {
     }
 }
 
-/// Why a command has no answer. A file is named where one has to do with it.
-#[derive(Clone, Copy, Debug)]
+/// Why a command has no answer. A file is named where one has to do with it. Of a spent budget it is told how many
+/// nodes it allows, how many were made and, where it is the follower's, at which link.
+#[derive(Debug, Drop)]
 pub(crate) enum Failure<'a> {
     Words,
     Text(&'a str, TextFault),
+    NodesSpent {
+        budget: u32,
+        made: u32,
+    },
+    FollowerSpent {
+        budget: u32,
+        made: u32,
+        link: Vec<i64>,
+    },
     ReadFault(&'a str),
     WriteFault,
     Memory,
@@ -74,12 +86,14 @@ impl Failure<'_> {
     ghost use Rattle.bl_run.specs.Promise.{Tells};
     ghost use Rattle.bl_run.specs.Steps.{failure_ending};
 
-    pub(crate) fn status(self) -> Status
-        ensures { result.0 ≡ status_of (failure_ending self.entry) }
+    pub(crate) fn status(&self) -> Status
+        ensures { result.0 ≡ status_of (failure_ending self.now) }
     {
         Status(match self {
             Failure::Words => 2,
             Failure::Text(_, _) => 3,
+            Failure::NodesSpent { .. } => 4,
+            Failure::FollowerSpent { .. } => 5,
             Failure::ReadFault(_) => 6,
             Failure::WriteFault => 7,
             Failure::Memory => 8,
@@ -88,12 +102,16 @@ impl Failure<'_> {
     }
 
     /// Prints the line on the failure. It stops at the first piece that isn't taken.
-    pub(crate) fn tell<E: Sink>(self, err: &mut E)
-        ensures { Tells (line_of (failure_ending self.entry)) (E.state err.old) (E.state err.new) }
+    pub(crate) fn tell<E: Sink>(&self, err: &mut E)
+        ensures { Tells (line_of (failure_ending self.now)) (E.state err.old) (E.state err.new) }
     {
         let _ = match self {
             Failure::Words => put_all(err, &[b"mibs: words not understood\n"]),
-            Failure::Text(file, fault) => tell_fault(err, file, fault),
+            Failure::Text(file, fault) => tell_fault(err, file, *fault),
+            Failure::NodesSpent { budget, made } => tell_nodes(err, *budget, *made),
+            Failure::FollowerSpent { budget, made, link } => tell_follower(
+                err, *budget, *made, link,
+            ),
             Failure::ReadFault(file) => put_all(
                 err,
                 &[b"mibs: read fault: ", file.as_bytes(), b"\n"],
@@ -130,6 +148,79 @@ fn put_rule<E: Sink>(err: &mut E, fault: TextFault) -> Result<(), SinkFail>
             put_all(err, &[b"column ", column, b": ", rule, b"\n"])
         }
     }
+}
+
+/// Prints the line on the spent budget of nodes.
+fn tell_nodes<E: Sink>(err: &mut E, budget: u32, made: u32) -> Result<(), SinkFail>
+    ensures { Puts (nodes_line budget made) (E.state err.old) (E.state err.new) result }
+{
+    let mut budget_digits = Buffer::new();
+    let mut made_digits = Buffer::new();
+    let budget = budget_digits.format(budget).as_bytes();
+    let made = made_digits.format(made).as_bytes();
+    put_all(
+        err,
+        &[
+            b"mibs: node budget ",
+            budget,
+            b" spent with ",
+            made,
+            b" nodes\n",
+        ],
+    )
+}
+
+/// Prints the line on the spent budget of the follower.
+fn tell_follower<E: Sink>(err: &mut E, budget: u32, made: u32, link: &[i64]) -> Result<(), SinkFail>
+    ensures { Puts (follower_head budget made ++ (link_text link.now ++ codes "\n"))
+        (E.state err.old) (E.state err.new) result }
+{
+    put_head(err, budget, made)?;
+    put_link(err, link)
+}
+
+/// Puts the line up to the link.
+fn put_head<E: Sink>(err: &mut E, budget: u32, made: u32) -> Result<(), SinkFail>
+    ensures { Puts (follower_head budget made) (E.state err.old) (E.state err.new) result }
+{
+    let mut budget_digits = Buffer::new();
+    let mut made_digits = Buffer::new();
+    let budget = budget_digits.format(budget).as_bytes();
+    let made = made_digits.format(made).as_bytes();
+    put_all(
+        err,
+        &[
+            b"mibs: follower budget ",
+            budget,
+            b" spent with ",
+            made,
+            b" nodes at link",
+        ],
+    )
+}
+
+/// Puts the values of a link, and ends the line.
+fn put_link<E: Sink>(err: &mut E, link: &[i64]) -> Result<(), SinkFail>
+    ensures { Puts (link_text link.now ++ codes "\n") (E.state err.old) (E.state err.new) result }
+{
+    put_values(err, link)?;
+    put_all(err, &[b"\n"])
+}
+
+fn put_values<E: Sink>(err: &mut E, values: &[i64]) -> Result<(), SinkFail>
+    ensures { Puts (link_text values.now) (E.state err.old) (E.state err.new) result }
+{
+    for value in values {
+        put_value(err, *value)?;
+    }
+    Ok(())
+}
+
+fn put_value<E: Sink>(err: &mut E, value: i64) -> Result<(), SinkFail>
+    ensures { Puts (codes " " ++ signed_decimal value) (E.state err.old) (E.state err.new) result }
+{
+    let mut digits = Buffer::new();
+    put_all(err, &[b" ", digits.format(value).as_bytes()])
 }
 
 /// Puts the pieces in order, up to the first that isn't taken.

@@ -23,7 +23,9 @@ use std::thread::Threads;
 /// | 0 | an optimal point is printed |
 /// | 1 | it is printed that no point is bilevel feasible |
 /// | 2 | the words aren't those of a command |
-/// | 3 | a text breaks a rule, or none does and the box has more than `MAX_WALK_POINTS` points |
+/// | 3 | a text breaks a rule |
+/// | 4 | the budget of nodes of the branch-and-bound tree is spent |
+/// | 5 | the budget of nodes of the follower's tree is spent at a link |
 /// | 6 | the shelf failed in reading |
 /// | 7 | `out` failed; some first bytes of the report may stand there |
 /// | 8 | no memory was left at some step before the report |
@@ -31,8 +33,9 @@ use std::thread::Threads;
 ///
 /// The MPS file is read and judged before the auxiliary file is looked for. Where a fault of reading or
 /// want of memory comes first, it stands in place of a later cause. A failure of `err` changes no status.
-/// What the files and outputs hold is known where they tell it. The gate and the threads have no effect
-/// on any answer.
+/// No budget is spent that is at least twice the points of its box less one: the box of all columns, and that of the
+/// follower's. What the files and outputs hold is known where they tell it. The gate and the threads have no effect on
+/// any answer.
 pub fn run<R: Threads + Wait + Sync, F: Shelf, O: Sink, E: Sink, G: Gate + Sync>(
     _rt: &R,
     alloc: Global,

@@ -10,7 +10,7 @@ use Rattle.bl_text.specs.Lines.{lines_of, ended, IsLine}
 use Rattle.bl_text.proofs.LineLaws.{has_its_lines}
 use Rattle.bl_aux.specs.Canonical.{aux_text}
 use Rattle.bl_aux.specs.Given.{sizes_of}
-use Rattle.bl_aux.proofs.Canonicals.{reads_back}
+use Rattle.bl_aux.proofs.Canonicals.{canonical_lines, lines-whole, reads_back}
 use Rattle.bl_aux.proofs.GoodLines.{says_followers}
 use Rattle.bl_model.specs.Build.{program_of}
 use Rattle.bl_mps_terms.specs.Words.{Bytes}
@@ -28,8 +28,7 @@ use Rattle.bl_mps_laws.proofs.Tokens.{Token, Begin, IsToken, IsNotEnd, line_of, 
 use Rattle.bl_mps_laws.proofs.Walks.{leads_tokens, leads_not_end}
 use Rattle.bl_show_laws.specs.ShowsBack.{to_end, behind_end, before_links, from_links, mps_part, aux_part, links_part}
 use Rattle.bl_show_laws.specs.ShowsBack.{SaysAgain, ShowsBack}
-use Rattle.bl_show_laws.proofs.AuxLines.{aux_lines, aux_text_lines, IsKeyLine, aux_key_lines, IsShort, short_follower}
-use Rattle.bl_show_laws.proofs.AuxLines.{aux_text_short}
+use Rattle.bl_show_laws.proofs.AuxLines.{IsKeyLine, aux_key_lines, IsShort, short_follower, aux_text_short}
 use Rattle.bl_show_laws.proofs.Parts.{to_end-tokens, behind_end-tokens, before_links-keys, from_links-keys, links_alone}
 use Rattle.bl_show_laws.proofs.Parts.{IsLinksLine, is_links_line, links_few}
 
@@ -48,14 +47,14 @@ module _ (mps : RawMps) (aux : RawAux) (h : IsSayable mps) (short : IsShort aux)
   one_line : IsLinksLine links
   one_line = is_links_line links (links_few mps aux h.column_count)
 
-  keys : AllByRecursion IsKeyLine (aux_lines aux)
+  keys : AllByRecursion IsKeyLine (canonical_lines aux)
   keys = aux_key_lines aux short
 
-  behind_lines : lines_of behind ≡ aux_lines aux ++ links_alone links ∷ []
+  behind_lines : lines_of behind ≡ canonical_lines aux ++ links_alone links ∷ []
   behind_lines =
-      ap (λ (t : List ℕ). lines_of (t ++ links_line links)) (aux_text_lines aux)
-      ∙ has_its_lines.ended (aux_lines aux) (links_line links) (plain_lines (aux_lines aux) keys)
-      ∙ ap (λ (ls : List Bytes). aux_lines aux ++ ls) one_line.lines
+      ap (λ (t : List ℕ). lines_of (t ++ links_line links)) (lines-whole aux)
+      ∙ has_its_lines.ended (canonical_lines aux) (links_line links) (plain_lines (canonical_lines aux) keys)
+      ∙ ap (λ (ls : List Bytes). canonical_lines aux ++ ls) one_line.lines
 
   abbrev tokens : List Token
   tokens = tokens_of mps
@@ -79,20 +78,20 @@ module _ (mps : RawMps) (aux : RawAux) (h : IsSayable mps) (short : IsShort aux)
       ap (λ (ls : List Bytes). flat_map ended (to_end ls)) (lines_are mps h behind)
       ∙ ap (flat_map ended) (to_end-tokens tokens (lines_of behind) good not_last) ∙ text_lines
 
-  rest_lines : behind_end (lines_of (mps_text mps ++ behind)) ≡ aux_lines aux ++ links_alone links ∷ []
+  rest_lines : behind_end (lines_of (mps_text mps ++ behind)) ≡ canonical_lines aux ++ links_alone links ∷ []
   rest_lines =
       ap behind_end (lines_are mps h behind) ∙ behind_end-tokens tokens (lines_of behind) good not_last ∙ behind_lines
 
   second_part : aux_part (mps_text mps ++ behind) ≡ aux_text aux
   second_part =
       ap (λ (ls : List Bytes). flat_map ended (before_links ls)) rest_lines
-      ∙ ap (flat_map ended) (before_links-keys (aux_lines aux) (links_alone links) keys refl)
-      ∙ sym (aux_text_lines aux)
+      ∙ ap (flat_map ended) (before_links-keys (canonical_lines aux) (links_alone links) keys refl)
+      ∙ sym (lines-whole aux)
 
   last_part : links_part (mps_text mps ++ behind) ≡ links_line links
   last_part =
       ap (λ (ls : List Bytes). flat_map ended (from_links ls)) rest_lines
-      ∙ ap (flat_map ended) (from_links-keys (aux_lines aux) (links_alone links) keys refl) ∙ one_line.text
+      ∙ ap (flat_map ended) (from_links-keys (canonical_lines aux) (links_alone links) keys refl) ∙ one_line.text
 
   -- ---- what they say
 

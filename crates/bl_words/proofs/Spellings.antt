@@ -1,6 +1,6 @@
 -- The words that spell items are read as these items, and only such words are.
 use Rattle.std.proofs.Common.{◌≡◌, ℕ, Bool, true, false, cond, List, [], ◌∷◌, ◌++◌, length, get_or, Option, Some, None}
-use Rattle.std.proofs.Common.{refl, sym, ap, subst, ◌∙◌, inl, inr, codes, append_assoc, ◌&&◌}
+use Rattle.std.proofs.Common.{refl, sym, ap, subst, ◌∙◌, inl, inr, append_assoc, ◌⊎◌}
 use Rattle.std.specs.List.{before_first, after_first, position_or_len}
 use Rattle.std.specs.Str.{bytes_eq}
 use Rattle.std.specs.Option.{option_and_then, option_to_list}
@@ -9,14 +9,13 @@ use Rattle.std.proofs.lemmas.List.Sums.{split_at_first}
 use Rattle.std.proofs.lemmas.List.Sums.{passes_at_first}
 use Rattle.std.proofs.lemmas.Slice.Eq.{bytes_eq-Decides}
 use Rattle.std.proofs.lemmas.Bool.{cases_lt, eqb-true}
-use Rattle.bl_text.proofs.Digits.{and_true}
 use Rattle.bl_words.specs.declared.commands.Command.{Command}
 use Rattle.bl_words.specs.declared.commands.Command.TheVariants.{Solve, Show}
 use Rattle.bl_words.specs.declared.commands.Choice.{Choice}
-use Rattle.bl_words.specs.declared.commands.Choice.TheVariants.{DefaultUpper}
+use Rattle.bl_words.specs.declared.commands.Choice.TheVariants.{DefaultUpper, Nodes, FollowerNodes}
 use Rattle.bl_words.specs.Commands.{word_of, takes, is_plain}
 use Rattle.bl_words.specs.Items.{Item, IsSpelled, AreSpelled}
-use Rattle.bl_words.specs.Steps.{Step, is_equals, choice_of, texted, joined, named, step, walk}
+use Rattle.bl_words.specs.Steps.{Step, is_equals, choice_by, choice_of, taken, texted, joined, named, step, walk}
 
 abbrev item_of : Option Choice → List ℕ → Item
 item_of choice text = record { choice = choice; text = text }
@@ -36,7 +35,11 @@ step-word : (command : Command) (choice : Choice) → takes command choice ≡ t
     → step command None (word_of choice) ≡ Some (None, Some choice)
 unfolding step
 step-word Solve DefaultUpper h = refl
+step-word Solve Nodes h = refl
+step-word Solve FollowerNodes h = refl
 step-word Show DefaultUpper h = refl
+step-word Show Nodes h = absurd cc
+step-word Show FollowerNodes h = absurd cc
 
 step-value : (command : Command) (choice : Choice) (text : List ℕ) → is_plain text ≡ true
     → step command (Some choice) text ≡ Some (Some (item_of (Some choice) text), None)
@@ -48,7 +51,11 @@ step-joined : (command : Command) (choice : Choice) (text : List ℕ) → takes 
     → step command None (word_of choice ++ 61 ∷ text) ≡ Some (Some (item_of (Some choice) text), None)
 unfolding step
 step-joined Solve DefaultUpper text t h = texted-plain (Some DefaultUpper) text h
+step-joined Solve Nodes text t h = texted-plain (Some Nodes) text h
+step-joined Solve FollowerNodes text t h = texted-plain (Some FollowerNodes) text h
 step-joined Show DefaultUpper text t h = texted-plain (Some DefaultUpper) text h
+step-joined Show Nodes text t h = absurd cc
+step-joined Show FollowerNodes text t h = absurd cc
 
 walk-step : (command : Command) (items : List Item) (pending : Option Choice) (word : List ℕ) (words : List (List ℕ))
     (added : Option Item) (next : Option Choice) → step command pending word ≡ Some (added, next)
@@ -89,10 +96,37 @@ read_spelled command items words s = walk-spelled command [] items words s
 
 -- ---- what is read is spelled
 
-cond-choice : (test : Bool) (choice : Choice) → cond test (Some DefaultUpper) None ≡ Some choice
-    → (test ≡ true) × (DefaultUpper ≡ choice)
-cond-choice true choice e = (refl, cc)
-cond-choice false choice e = absurd cc
+bind-some : {A B : Type 0} (o : Option A) (f : A → Option B) (y : B) → option_and_then f o ≡ Some y
+    → (x : A) × (o ≡ Some x) × (f x ≡ Some y)
+bind-some (Some x) f y e = (x, refl, e)
+bind-some None f y e = absurd cc
+
+cond-some : (test : Bool) (this choice : Choice) → cond test (Some this) None ≡ Some choice
+    → (test ≡ true) × (this ≡ choice)
+cond-some true this choice e = (refl, cc)
+cond-some false this choice e = absurd cc
+
+cond-choice : (test : Bool) (this : Choice) (other : Option Choice) (choice : Choice)
+    → cond test (Some this) other ≡ Some choice → ((test ≡ true) × (this ≡ choice)) ⊎ (other ≡ Some choice)
+cond-choice true this other choice e = inl (refl, cc)
+cond-choice false this other choice e = inr e
+
+is-word : (word : List ℕ) (this choice : Choice)
+    → (bytes_eq word (word_of this) ≡ true) × (this ≡ choice) → word ≡ word_of choice
+is-word word this choice h = (bytes_eq-Decides word (word_of this)).0 h.0 ∙ ap word_of h.1
+
+choice-by : (word : List ℕ) (choice : Choice) → choice_by word ≡ Some choice → word ≡ word_of choice
+choice-by word choice e =
+    elim (cond-choice (bytes_eq word (word_of DefaultUpper)) DefaultUpper _ choice e) [
+      | inl h ↦ is-word word DefaultUpper choice h
+      | inr f ↦
+          elim (cond-choice (bytes_eq word (word_of Nodes)) Nodes _ choice f) [
+            | inl h ↦ is-word word Nodes choice h
+            | inr g ↦
+                is-word word FollowerNodes choice
+                (cond-some (bytes_eq word (word_of FollowerNodes)) FollowerNodes choice g)
+          ]
+    ]
 
 -- the word is the option's, and the command has it
 record IsChoice (command : Command) (word : List ℕ) (choice : Choice) : Type 0 where
@@ -102,11 +136,11 @@ record IsChoice (command : Command) (word : List ℕ) (choice : Choice) : Type 0
 choice-is : (command : Command) (word : List ℕ) (choice : Choice) → choice_of command word ≡ Some choice
     → IsChoice command word choice
 choice-is command word choice e =
-    let some = cond-choice (bytes_eq word (codes "--default-upper") && takes command DefaultUpper) choice e in
-    let both = and_true (bytes_eq word (codes "--default-upper")) (takes command DefaultUpper) some.0 in
+    let found = bind-some (choice_by word) (taken command) choice e in
+    let some = cond-some (takes command found.0) found.0 choice found.2 in
     record {
-      is_word = (bytes_eq-Decides word (codes "--default-upper")).0 both.0 ∙ ap word_of some.1;
-      is_taken = ap (takes command) (sym some.1) ∙ both.1;
+      is_word = choice-by word found.0 found.1 ∙ ap word_of some.1;
+      is_taken = ap (takes command) (sym some.1) ∙ some.0;
     }
 
 pair-is : (s t : Step) → Some s ≡ Some t → s ≡ t
@@ -200,11 +234,6 @@ spells-more command done items choice text front back s p more = record {
   whole = more.whole ∙ append_assoc done (item_of choice text ∷ []) more.more;
   spelled = (front, (back, refl, s, p, more.spelled));
 }
-
-bind-some : {A B : Type 0} (o : Option A) (f : A → Option B) (y : B) → option_and_then f o ≡ Some y
-    → (x : A) × (o ≡ Some x) × (f x ≡ Some y)
-bind-some (Some x) f y e = (x, refl, e)
-bind-some None f y e = absurd cc
 
 some-items : (done items : List Item) → Some done ≡ Some items → items ≡ done
 some-items done items e = cc

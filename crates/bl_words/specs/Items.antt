@@ -3,11 +3,10 @@ use Rattle.std.specs.Prelude.{◌≡◌, ◌≢◌, ◌⊎◌, ℕ, ℤ, pos, �
 use Rattle.std.specs.Prelude.{if◌then◌else◌}
 use Rattle.std.specs.Fmt.{decimal}
 use Rattle.std.specs.List.{filter_map}
-use Rattle.bl_limits.specs.declared.TheConstants.{MAX_NUMBER, DEFAULT_UPPER}
 use Rattle.bl_words.specs.declared.commands.Command.{Command}
 use Rattle.bl_words.specs.declared.commands.Choice.{Choice}
-use Rattle.bl_words.specs.declared.commands.Choice.TheVariants.{DefaultUpper}
-use Rattle.bl_words.specs.Commands.{name_of, word_of, takes, is_plain}
+use Rattle.bl_words.specs.declared.commands.Choice.TheVariants.{DefaultUpper, Nodes, FollowerNodes}
+use Rattle.bl_words.specs.Commands.{name_of, word_of, takes, is_plain, least, greatest, usual}
 
 -- a file, or the value of an option
 pub record Item : Type 0 where
@@ -32,32 +31,44 @@ AreSpelled command (item ∷ items) words =
 abbrev pub is_same : Option Choice → Option Choice → Bool
 is_same None None = true
 is_same (Some DefaultUpper) (Some DefaultUpper) = true
+is_same (Some Nodes) (Some Nodes) = true
+is_same (Some FollowerNodes) (Some FollowerNodes) = true
 is_same _ _ = false
 
 -- the files, or the values of an option, in order
 abbrev pub texts_of : Option Choice → List Item → List (List ℕ)
 texts_of choice items = filter_map (λ item. if is_same choice item.choice then Some item.text else None) items
 
--- the default upper bound, which is given once at most, in plain digits and within its limits
-abbrev pub IsUpper : List (List ℕ) → ℤ → Type 0
-IsUpper [] upper = upper ≡ DEFAULT_UPPER
-IsUpper (text ∷ []) upper = (number : ℕ) × (number ≤ MAX_NUMBER) × (text ≡ decimal number) × (upper ≡ pos number)
-IsUpper (text ∷ other ∷ texts) upper = ⊥
+-- the number of an option with these values: it is given once at most, in plain digits and within its limits, or else
+-- the usual one
+abbrev pub IsNumber : Choice → List (List ℕ) → ℤ → Type 0
+IsNumber choice [] value = value ≡ usual choice
+IsNumber choice (text ∷ []) value =
+    (number : ℕ) × (least choice ≤ number) × (number ≤ greatest choice) × (text ≡ decimal number) × (value ≡ pos number)
+IsNumber choice (text ∷ other ∷ texts) value = ⊥
+
+-- the items give the option this number
+abbrev pub Gives : List Item → Choice → ℤ → Type 0
+Gives items choice value = IsNumber choice (texts_of (Some choice) items) value
 
 -- the only files, and they are different
 pub record AreFiles (items : List Item) (mps aux : List ℕ) : Type 0 where
   pub files : texts_of None items ≡ mps ∷ aux ∷ []
   pub apart : mps ≢ aux
 
--- two different files and a default upper bound
-pub record AreModelItems (items : List Item) (mps aux : List ℕ) (upper : ℤ) : Type 0 where
+-- two different files, a default upper bound and the two budgets of nodes
+pub record AreModelItems (items : List Item) (mps aux : List ℕ) (upper : ℤ) (nodes follower_nodes : ℕ) : Type 0 where
   pub files : AreFiles items mps aux
-  pub default_upper : IsUpper (texts_of (Some DefaultUpper) items) upper
+  pub default_upper : Gives items DefaultUpper upper
+  pub node_budget : Gives items Nodes (pos nodes)
+  pub follower_budget : Gives items FollowerNodes (pos follower_nodes)
 
--- the words are this command's, with these files and this default upper bound
-pub record AreModelWords (command : Command) (words : List (List ℕ)) (mps aux : List ℕ) (upper : ℤ) : Type 0 where
+-- The words are this command's, with these files, this default upper bound and these budgets. An option that the
+-- command doesn't have has its usual number.
+pub record AreModelWords (command : Command) (words : List (List ℕ)) (mps aux : List ℕ) (upper : ℤ)
+    (nodes follower_nodes : ℕ) : Type 0 where
   pub rest : List (List ℕ)
   pub items : List Item
   pub begins : words ≡ name_of command ∷ rest
   pub spelled : AreSpelled command items rest
-  pub said : AreModelItems items mps aux upper
+  pub said : AreModelItems items mps aux upper nodes follower_nodes

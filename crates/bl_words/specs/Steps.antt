@@ -1,11 +1,11 @@
 -- Internal. The items as they are read word by word.
-use Rattle.std.specs.Prelude.{ℕ, Bool, ◌&&◌, ◌==◌, List, [], ◌∷◌, ◌++◌, Option, None, Some, if◌then◌else◌, codes}
+use Rattle.std.specs.Prelude.{ℕ, Bool, ◌==◌, List, [], ◌∷◌, ◌++◌, Option, None, Some, if◌then◌else◌, codes}
 use Rattle.std.specs.List.{before_first, after_first}
 use Rattle.std.specs.Str.{bytes_eq}
 use Rattle.std.specs.Option.{option_and_then, option_to_list}
 use Rattle.bl_words.specs.declared.commands.Command.{Command}
 use Rattle.bl_words.specs.declared.commands.Choice.{Choice}
-use Rattle.bl_words.specs.declared.commands.Choice.TheVariants.{DefaultUpper}
+use Rattle.bl_words.specs.declared.commands.Choice.TheVariants.{DefaultUpper, Nodes, FollowerNodes}
 use Rattle.bl_words.specs.Commands.{takes, is_plain}
 use Rattle.bl_words.specs.Items.{Item}
 
@@ -16,10 +16,19 @@ Step = Option Item × Option Choice
 abbrev pub is_equals : ℕ → Bool
 is_equals byte = byte == 61
 
+-- the option of this word
+abbrev pub choice_by : List ℕ → Option Choice
+choice_by word =
+    if bytes_eq word (codes "--default-upper") then Some DefaultUpper
+    else (if bytes_eq word (codes "--nodes") then Some Nodes
+    else (if bytes_eq word (codes "--follower-nodes") then Some FollowerNodes else None))
+
+abbrev pub taken : Command → Choice → Option Choice
+taken command choice = if takes command choice then Some choice else None
+
 -- the command's option of this word
 abbrev pub choice_of : Command → List ℕ → Option Choice
-choice_of command word =
-    if bytes_eq word (codes "--default-upper") && takes command DefaultUpper then Some DefaultUpper else None
+choice_of command word = option_and_then (taken command) (choice_by word)
 
 abbrev pub texted : Option Choice → List ℕ → Option Step
 texted choice text = if is_plain text then Some (Some (record { choice = choice; text = text }), None) else None

@@ -3,7 +3,7 @@ ghost use Rattle.std.specs.Prelude.{◌≡◌, [], None, Some, map, string_bytes
 ghost use Rattle.std.specs.Option.{option_map};
 ghost use Rattle.std.specs.List.{before_first, after_first};
 ghost use Rattle.bl_words.specs.Items.{is_same, texts_of};
-ghost use Rattle.bl_words.specs.Steps.{choice_of, is_equals, joined, named, step, texted, walk};
+ghost use Rattle.bl_words.specs.Steps.{choice_by, choice_of, is_equals, joined, named, step, taken, texted, walk};
 
 use crate::commands::{Choice, Command, is_plain};
 use std::alloc::{AllocError, Global};
@@ -24,15 +24,27 @@ impl<'a> Model for Item<'a> {
     ghost view = { λ i. record { choice = i.choice; text = i.text.now } };
 }
 
+/// The option of this word.
+fn choice_by(word: &str) -> Option<Choice>
+    ensures { result ≡ choice_by word.now }
+{
+    if word == "--default-upper" {
+        Some(Choice::DefaultUpper)
+    } else if word == "--nodes" {
+        Some(Choice::Nodes)
+    } else if word == "--follower-nodes" {
+        Some(Choice::FollowerNodes)
+    } else {
+        None
+    }
+}
+
 /// The command's option of this word.
 fn choice_of(command: Command, word: &str) -> Option<Choice>
     ensures { result ≡ choice_of command word.now }
 {
-    match command {
-        Command::Solve | Command::Show => (word == "--default-upper").then_some(
-            Choice::DefaultUpper,
-        ),
-    }
+    let choice = choice_by(word)?;
+    command.takes(choice).then_some(choice)
 }
 
 /// An item with this text, where the text may be a file's or a value's.
@@ -122,6 +134,8 @@ fn is_same(choice: Option<Choice>, other: Option<Choice>) -> bool
     match (choice, other) {
         (None, None) => true,
         (Some(Choice::DefaultUpper), Some(Choice::DefaultUpper)) => true,
+        (Some(Choice::Nodes), Some(Choice::Nodes)) => true,
+        (Some(Choice::FollowerNodes), Some(Choice::FollowerNodes)) => true,
         _ => false,
     }
 }

@@ -3,10 +3,10 @@ use super::*;
 use std::alloc::{AllocError, Global};
 use std::test::Fail;
 
-/// What the words say, as `COMMAND MPS AUX U`.
+/// What the words say, as `solve MPS AUX U N F` or `show MPS AUX U`.
 fn said(alloc: Global, words: &[String]) -> Result<Option<String>, AllocError> {
     if let Some(read) = solve_words(alloc, words)? {
-        let said = format!(in alloc; "solve {} {} {}", read.mps, read.aux, read.default_upper)?;
+        let said = solve_text(alloc, read)?;
         return Ok(Some(said));
     }
     if let Some(read) = show_words(alloc, words)? {
@@ -14,6 +14,13 @@ fn said(alloc: Global, words: &[String]) -> Result<Option<String>, AllocError> {
         return Ok(Some(said));
     }
     Ok(None)
+}
+
+fn solve_text(alloc: Global, read: SolveWords<'_>) -> Result<String, AllocError> {
+    format!(in alloc;
+        "solve {} {} {} {} {}",
+        read.mps, read.aux, read.default_upper, read.nodes, read.follower_nodes
+    )
 }
 
 /// What the words of a line say, where `|` stands between two words.
@@ -28,18 +35,29 @@ fn said_of(alloc: Global, line: &str) -> Result<Option<String>, AllocError> {
 #[test]
 fn understood_words(rt: HostRuntime) -> Result<(), Fail> {
     let rows = [
-        ("solve|a|b", "solve a b 1"),
+        ("solve|a|b", "solve a b 1 200000 50000"),
         ("show|a|b", "show a b 1"),
-        ("solve|--default-upper|9|m.mps|m.aux", "solve m.mps m.aux 9"),
-        ("solve|m.mps|--default-upper|9|m.aux", "solve m.mps m.aux 9"),
+        ("solve|--default-upper|9|a|b", "solve a b 9 200000 50000"),
+        ("solve|a|--default-upper=9|b", "solve a b 9 200000 50000"),
+        ("solve|a|b|--nodes|1", "solve a b 1 1 50000"),
+        ("solve|--nodes=2000000|a|b", "solve a b 1 2000000 50000"),
+        ("solve|a|--follower-nodes|1|b", "solve a b 1 200000 1"),
+        (
+            "solve|a|b|--follower-nodes=2000000",
+            "solve a b 1 200000 2000000",
+        ),
+        (
+            "solve|a|--nodes=5|b|--default-upper|4|--follower-nodes|6",
+            "solve a b 4 5 6",
+        ),
         ("show|m.mps|m.aux|--default-upper|0", "show m.mps m.aux 0"),
         (
             "show|m.mps|m.aux|--default-upper=10000000",
             "show m.mps m.aux 10000000",
         ),
-        ("solve|a=b|c=d", "solve a=b c=d 1"),
-        ("solve|solve|show", "solve solve show 1"),
-        ("solve|m.mps|./m.mps", "solve m.mps ./m.mps 1"),
+        ("solve|a=b|c=d", "solve a=b c=d 1 200000 50000"),
+        ("show|solve|show", "show solve show 1"),
+        ("show|m.mps|./m.mps", "show m.mps ./m.mps 1"),
     ];
     for (line, want) in rows {
         let said = said_of(rt.alloc(), line)?;
@@ -85,11 +103,24 @@ fn refused_words(rt: HostRuntime) -> Result<(), Fail> {
         "solve|a|b|--default-upper|99999999999999999999",
         "solve|a|b|--default-upper|2|--default-upper|2",
         "solve|a|b|--default-upper=2|--default-upper|3",
-        "solve|a|b|--default-upper2|3",
         "solve|a|b|--default|3",
         "solve|a|b|--default-uppers=3",
         "solve|a|b|-default-upper|3",
-        "solve|a|b|--nodes|5",
+        "solve|a|b|--nodes|0",
+        "solve|a|b|--nodes=0",
+        "solve|a|b|--nodes|2000001",
+        "solve|a|b|--nodes",
+        "solve|a|b|--nodes=",
+        "solve|a|b|--nodes|5|--nodes=5",
+        "solve|a|b|--node|5",
+        "solve|a|b|--follower-nodes|0",
+        "solve|a|b|--follower-nodes=2000001",
+        "solve|a|b|--follower-nodes|05",
+        "solve|a|b|--follower-nodes=5|--follower-nodes|6",
+        "show|a|b|--nodes|5",
+        "show|a|b|--nodes=5",
+        "show|a|b|--follower-nodes|5",
+        "show|a|b|--follower-nodes=5",
         "solve|a|b|--cert|c",
         "show|a|b|--cert|c",
         "show|a|--default-upper|b",

@@ -1,12 +1,11 @@
 //! The words of each command.
-ghost use Rattle.std.specs.Prelude.{ℕ, ℤ, List, [], ◌∷◌, Some, map, string_bytes, IfOk, IfSome, IfNone};
-ghost use Rattle.bl_words.specs.Items.{AreModelWords, AreModelItems, AreFiles, IsUpper, texts_of};
+ghost use Rattle.std.specs.Prelude.{ℕ, ℤ, pos, List, [], ◌∷◌, map, string_bytes, IfOk, IfSome, IfNone};
+ghost use Rattle.bl_limits.specs.declared.TheConstants.{DEFAULT_NODES, DEFAULT_FOLLOWER_NODES};
+ghost use Rattle.bl_words.specs.Items.{AreModelWords, AreModelItems, AreFiles, Gives, IsNumber};
 ghost use Rattle.bl_words.specs.declared.commands.Command.TheVariants.{Solve, Show};
-ghost use Rattle.bl_words.specs.declared.commands.Choice.TheVariants.{DefaultUpper};
 
 use crate::commands::{Choice, Command};
 use crate::items::{Item, read_items, text_at};
-use bl_limits::{DEFAULT_UPPER, MAX_NUMBER};
 use bl_text::plain_number;
 use std::alloc::{AllocError, Global};
 
@@ -19,6 +18,10 @@ pub struct SolveWords<'a> {
     pub aux: &'a str,
     /// The upper bound of an integer column that no bound line names.
     pub default_upper: i64,
+    /// The budget of nodes of the branch-and-bound tree, from 1 to `MAX_NODES`.
+    pub nodes: u32,
+    /// The budget of nodes of each follower's tree, from 1 to `MAX_FOLLOWER_NODES`.
+    pub follower_nodes: u32,
 }
 
 /// What `show` is asked to do.
@@ -34,10 +37,10 @@ pub struct ShowWords<'a> {
 
 /// Reads the words behind the program's name as those of `solve`; `None` where they aren't.
 pub fn solve_words(alloc: Global, words: &[String]) -> Result<Option<SolveWords<'_>>, AllocError>
-    ensures found { IfOk result (λ read. IfSome read (λ w.
-        AreModelWords Solve (map string_bytes words.now) w.mps.now w.aux.now w.default_upper)) }
-    ensures refused { IfOk result (λ read. IfNone read ((mps aux : List ℕ) (upper : ℤ)
-        → AreModelWords Solve (map string_bytes words.now) mps aux upper → ⊥)) }
+    ensures found { IfOk result (λ read. IfSome read (λ w. AreModelWords Solve (map string_bytes words.now)
+        w.mps.now w.aux.now w.default_upper w.nodes w.follower_nodes)) }
+    ensures refused { IfOk result (λ read. IfNone read ((mps aux : List ℕ) (upper : ℤ) (nodes follower_nodes : ℕ)
+        → AreModelWords Solve (map string_bytes words.now) mps aux upper nodes follower_nodes → ⊥)) }
 {
     let Some(read) = model_words(alloc, Command::Solve, words)? else {
         return Ok(None);
@@ -46,15 +49,17 @@ pub fn solve_words(alloc: Global, words: &[String]) -> Result<Option<SolveWords<
         mps: read.mps,
         aux: read.aux,
         default_upper: read.default_upper,
+        nodes: read.nodes,
+        follower_nodes: read.follower_nodes,
     }))
 }
 
 /// Reads the words behind the program's name as those of `show`; `None` where they aren't.
 pub fn show_words(alloc: Global, words: &[String]) -> Result<Option<ShowWords<'_>>, AllocError>
-    ensures found { IfOk result (λ read. IfSome read (λ w.
-        AreModelWords Show (map string_bytes words.now) w.mps.now w.aux.now w.default_upper)) }
-    ensures refused { IfOk result (λ read. IfNone read ((mps aux : List ℕ) (upper : ℤ)
-        → AreModelWords Show (map string_bytes words.now) mps aux upper → ⊥)) }
+    ensures found { IfOk result (λ read. IfSome read (λ w. AreModelWords Show (map string_bytes words.now)
+        w.mps.now w.aux.now w.default_upper DEFAULT_NODES DEFAULT_FOLLOWER_NODES)) }
+    ensures refused { IfOk result (λ read. IfNone read ((mps aux : List ℕ) (upper : ℤ) (nodes follower_nodes : ℕ)
+        → AreModelWords Show (map string_bytes words.now) mps aux upper nodes follower_nodes → ⊥)) }
 {
     let Some(read) = model_words(alloc, Command::Show, words)? else {
         return Ok(None);
@@ -72,6 +77,8 @@ struct ModelWords<'a> {
     mps: &'a str,
     aux: &'a str,
     default_upper: i64,
+    nodes: u32,
+    follower_nodes: u32,
 }
 
 fn model_words(
@@ -79,10 +86,10 @@ fn model_words(
     command: Command,
     words: &[String],
 ) -> Result<Option<ModelWords<'_>>, AllocError>
-    ensures found { IfOk result (λ read. IfSome read (λ w.
-        AreModelWords command (map string_bytes words.now) w.mps.now w.aux.now w.default_upper)) }
-    ensures refused { IfOk result (λ read. IfNone read ((mps aux : List ℕ) (upper : ℤ)
-        → AreModelWords command (map string_bytes words.now) mps aux upper → ⊥)) }
+    ensures found { IfOk result (λ read. IfSome read (λ w. AreModelWords command (map string_bytes words.now)
+        w.mps.now w.aux.now w.default_upper w.nodes w.follower_nodes)) }
+    ensures refused { IfOk result (λ read. IfNone read ((mps aux : List ℕ) (upper : ℤ) (nodes follower_nodes : ℕ)
+        → AreModelWords command (map string_bytes words.now) mps aux upper nodes follower_nodes → ⊥)) }
 {
     let [first, rest @ ..] = words else {
         return Ok(None);
@@ -96,18 +103,23 @@ fn model_words(
     Ok(items_words(&items))
 }
 
-/// What the items say, where they are two different files and at most one default upper bound.
+/// What the items say, where they are two different files, and each option is given once at most.
 fn items_words<'a>(items: &[Item<'a>]) -> Option<ModelWords<'a>>
-    ensures found { IfSome result (λ w. AreModelItems items.now w.mps.now w.aux.now w.default_upper) }
-    ensures refused { IfNone result ((mps aux : List ℕ) (upper : ℤ)
-        → AreModelItems items.now mps aux upper → ⊥) }
+    ensures found { IfSome result (λ w.
+        AreModelItems items.now w.mps.now w.aux.now w.default_upper w.nodes w.follower_nodes) }
+    ensures refused { IfNone result ((mps aux : List ℕ) (upper : ℤ) (nodes follower_nodes : ℕ)
+        → AreModelItems items.now mps aux upper nodes follower_nodes → ⊥) }
 {
     let (mps, aux) = two_files(items)?;
-    let default_upper = default_upper(items)?;
+    let default_upper = number_of(items, Choice::DefaultUpper)?;
+    let nodes = budget_of(items, Choice::Nodes)?;
+    let follower_nodes = budget_of(items, Choice::FollowerNodes)?;
     Some(ModelWords {
         mps,
         aux,
         default_upper,
+        nodes,
+        follower_nodes,
     })
 }
 
@@ -125,29 +137,37 @@ fn two_files<'a>(items: &[Item<'a>]) -> Option<(&'a str, &'a str)>
     Some((mps, aux))
 }
 
-/// The default upper bound, which is given once at most.
-fn default_upper(items: &[Item<'_>]) -> Option<i64>
-    ensures found { IfSome result (λ upper. IsUpper (texts_of (Some DefaultUpper) items.now) upper) }
-    ensures refused { IfNone result ((upper : ℤ) → IsUpper (texts_of (Some DefaultUpper) items.now) upper → ⊥) }
+/// The number of an option, which is given once at most.
+fn number_of(items: &[Item<'_>], choice: Choice) -> Option<i64>
+    ensures found { IfSome result (Gives items.now choice) }
+    ensures refused { IfNone result ((number : ℤ) → Gives items.now choice number → ⊥) }
 {
-    let choice = Some(Choice::DefaultUpper);
-    let second = text_at(items, choice, 1);
+    let second = text_at(items, Some(choice), 1);
     if second.is_some() {
         return None;
     }
-    match text_at(items, choice, 0) {
-        Some(text) => upper_of(text),
-        None => Some(DEFAULT_UPPER),
+    match text_at(items, Some(choice), 0) {
+        Some(text) => number_in(text, choice),
+        None => Some(choice.usual()),
     }
 }
 
-/// The number of plain digits, where it is within the limits of a default upper bound.
-fn upper_of(text: &str) -> Option<i64>
-    ensures found { IfSome result (λ upper. IsUpper (text.now ∷ []) upper) }
-    ensures refused { IfNone result ((upper : ℤ) → IsUpper (text.now ∷ []) upper → ⊥) }
+/// The number of an option, which is never negative and fits 32 bits.
+fn budget_of(items: &[Item<'_>], choice: Choice) -> Option<u32>
+    ensures found { IfSome result (λ number. Gives items.now choice (pos number)) }
+    ensures refused { IfNone result ((number : ℤ) → Gives items.now choice number → ⊥) }
+{
+    let number = number_of(items, choice)?;
+    Some(number as u32)
+}
+
+/// The number of plain digits, where it is within the limits of the option.
+fn number_in(text: &str, choice: Choice) -> Option<i64>
+    ensures found { IfSome result (IsNumber choice (text.now ∷ [])) }
+    ensures refused { IfNone result ((number : ℤ) → IsNumber choice (text.now ∷ []) number → ⊥) }
 {
     let number = plain_number(text.as_bytes())?;
-    if number < 0 || number > MAX_NUMBER as i64 {
+    if number < choice.least() || number > choice.greatest() {
         return None;
     }
     Some(number)

@@ -1,4 +1,4 @@
-//! Texts of models: first those of the folder `examples`, as they stand there.
+//! Texts of models.
 
 /// The example of Moore and Bard (1990).
 pub(super) const MOORE_BARD: &str = "\
@@ -265,21 +265,151 @@ BOUNDS
 ENDATA
 ";
 
-/// A box of 101 · 101 · 101 points.
-pub(super) const LARGE: &str = "\
-NAME
+/// X fixed to 3, cost 2X, X <= 3, and no follower.
+pub(super) const FIXED: &str = "\
+ROWS
+ N COST
+ L R
+COLUMNS
+ M 'MARKER' 'INTORG'
+ X COST 2 R 1
+RHS
+ R 3
+BOUNDS
+ FX X 3
+ENDATA
+";
+
+/// The same with X <= 2.
+pub(super) const FIXED_APART: &str = "\
+ROWS
+ N COST
+ L R
+COLUMNS
+ M 'MARKER' 'INTORG'
+ X COST 2 R 1
+RHS
+ R 2
+BOUNDS
+ FX X 3
+ENDATA
+";
+
+/// X, Y 0..1, the follower's row 2Y >= 1, cost -X.
+pub(super) const HALF: &str = "\
+ROWS
+ N COST
+ G R
+COLUMNS
+ M 'MARKER' 'INTORG'
+ X COST -1
+ Y R 2
+RHS
+ R 1
+BOUNDS
+ UP X 1
+ UP Y 1
+ENDATA
+";
+
+/// X from 0 to the default upper bound, cost -X.
+pub(super) const OPEN: &str = "\
 ROWS
  N COST
 COLUMNS
  M 'MARKER' 'INTORG'
- A COST 1
- B COST 1
- C COST 1
- M 'MARKER' 'INTEND'
-RHS
-BOUNDS
- UP BND A 100
- UP BND B 100
- UP BND C 100
+ X COST -1
 ENDATA
+";
+
+/// 2X from 6 to 10, given as a row of at most 10 with a range of 4; the leader maximises X.
+pub(super) const RANGE: &str = "\
+OBJSENSE MAX
+ROWS
+ N COST
+ L R
+COLUMNS
+ M 'MARKER' 'INTORG'
+ X COST 1 R 2
+RHS
+ R 10
+RANGES
+ R 4
+BOUNDS
+ UP X 9
+ENDATA
+";
+
+/// What is shown of the example of Moore and Bard, and of the range.
+pub(super) const MOORE_BARD_SHOWN: &str = "\
+0
+NAME
+ROWS
+ N COST
+ L C1
+ L C2
+ L C3
+ G C4
+COLUMNS
+ MARKER 'MARKER' 'INTORG'
+ X COST -1
+ X C1 -25
+ X C2 1
+ X C3 2
+ X C4 2
+ Y COST -10
+ Y C1 20
+ Y C2 2
+ Y C3 -1
+ Y C4 10
+ MARKER 'MARKER' 'INTEND'
+RHS
+ RHS C1 30
+ RHS C2 10
+ RHS C3 15
+ RHS C4 15
+RANGES
+BOUNDS
+ LO BND X 0
+ UP BND X 10
+ LO BND Y 0
+ UP BND Y 10
+ENDATA
+N 1
+M 4
+LC 1
+LR 0
+LR 1
+LR 2
+LR 3
+LO 1
+OS 1
+links 0
+";
+
+pub(super) const RANGE_SHOWN: &str = "\
+0
+NAME
+OBJSENSE
+ MAX
+ROWS
+ N COST
+ G R
+COLUMNS
+ MARKER 'MARKER' 'INTORG'
+ X COST 1
+ X R 2
+ MARKER 'MARKER' 'INTEND'
+RHS
+ RHS R 6
+RANGES
+ RANGE R 4
+BOUNDS
+ LO BND X 0
+ UP BND X 9
+ENDATA
+N 0
+M 0
+OS 1
+links
 ";

@@ -4,9 +4,8 @@ use Rattle.std.specs.Int.{w64}
 use Rattle.std.proofs.lemmas.Int.{to_z-of_z}
 use Rattle.bl_run.specs.Steps.{show_asked}
 use Rattle.bl_run.proofs.SolveLemmas.{upper_fits}
-use Rattle.bl_run.specs.Report as report
 use Rattle.bl_run.specs.declared.status.Answer.TheVariants.{Shown}
-use Rattle.bl_run.proofs.StepLemmas.{mps_stops, aux_stops, memory_stops, printing_stops, answered}
+use Rattle.bl_run.proofs.StepLemmas.{mps_stops, aux_stops, memory_stops, no_outcome, printing_stops, answered}
 use Rattle.bl_run.proofs.show.show.Goals as goal
 
 pub returns-in_err-mps : goal.returns-in_err-mps
@@ -52,7 +51,7 @@ returns-in_err-put g c =
     (g.F.Shelf.state c.read_aux.new.files) c.in_ok-mps.mps c.in_ok-aux.aux
     (rw upper at c.in_ok-mps.ensures.read) c.in_ok-mps.ensures.counts c.in_ok-aux.ensures.read
     c.in_ok-aux.ensures.counts
-    (g.O.Sink.state c.args.out.now) (g.O.Sink.state c.put.new.self) report.None c.in_ok-text.text.items
+    (g.O.Sink.state c.args.out.now) (g.O.Sink.state c.put.new.self) no_outcome c.in_ok-text.text.items
     tt tt c.in_ok-text.ensures
     (rw c.deref.ensures.value at c.in_err-put.ensures.err) c.in_err-put.ensures.fault)
 
@@ -64,6 +63,6 @@ returns g c =
     (g.F.Shelf.state c.read_aux.new.files) c.in_ok-mps.mps c.in_ok-aux.aux
     (rw upper at c.in_ok-mps.ensures.read) c.in_ok-mps.ensures.counts c.in_ok-aux.ensures.read
     c.in_ok-aux.ensures.counts
-    (g.O.Sink.state c.args.out.now) (g.O.Sink.state c.put.new.self) report.None c.in_ok-text.text.items
+    (g.O.Sink.state c.args.out.now) (g.O.Sink.state c.put.new.self) no_outcome c.in_ok-text.text.items
     tt tt c.in_ok-text.ensures Shown refl
     (rw c.deref.ensures.value at c.in_ok-put.ensures.ok) c.in_ok-put.ensures.fault

@@ -10,7 +10,7 @@ use Rattle.bl_run.proofs.solve.solve.Goals as goal
 pub returns-in_err-mps : goal.returns-in_err-mps
 returns-in_err-mps g c =
     let asked = solve_asked c.args.words in
-    let upper = to_z-of_z w64 c.args.words.default_upper (upper_fits c.args.words.default_upper c.requires) in
+    let upper = to_z-of_z w64 c.args.words.default_upper (upper_fits c.args.words.default_upper c.requires.upper) in
     let p = err_from_is_err_and c.from_residual.result c.from_residual.ensures.1 in
     rw (p.1, p.2)
     (mps_stops asked (g.F.Shelf.state c.args.files.now) (g.F.Shelf.state c.read_mps.new.files)
@@ -20,7 +20,7 @@ returns-in_err-mps g c =
 pub returns-in_err-aux : goal.returns-in_err-aux
 returns-in_err-aux g c =
     let asked = solve_asked c.args.words in
-    let upper = to_z-of_z w64 c.args.words.default_upper (upper_fits c.args.words.default_upper c.requires) in
+    let upper = to_z-of_z w64 c.args.words.default_upper (upper_fits c.args.words.default_upper c.requires.upper) in
     let p = err_from_is_err_and c.from_residual-in_err-aux.result c.from_residual-in_err-aux.ensures.1 in
     rw (p.1, p.2)
     (aux_stops asked (g.F.Shelf.state c.args.files.now) (g.F.Shelf.state c.read_mps.new.files)
@@ -31,7 +31,7 @@ returns-in_err-aux g c =
 pub returns-in_err-report : goal.returns-in_err-report
 returns-in_err-report g c =
     let asked = solve_asked c.args.words in
-    let upper = to_z-of_z w64 c.args.words.default_upper (upper_fits c.args.words.default_upper c.requires) in
+    let upper = to_z-of_z w64 c.args.words.default_upper (upper_fits c.args.words.default_upper c.requires.upper) in
     let p = err_from_is_err_and c.from_residual-in_err-report.result c.from_residual-in_err-report.ensures.1 in
     rw (p.1, p.2)
     (solving_stops asked (g.F.Shelf.state c.args.files.now) (g.F.Shelf.state c.read_mps.new.files)
@@ -43,7 +43,7 @@ returns-in_err-report g c =
 pub returns-in_err-put : goal.returns-in_err-put
 returns-in_err-put g c =
     let asked = solve_asked c.args.words in
-    let upper = to_z-of_z w64 c.args.words.default_upper (upper_fits c.args.words.default_upper c.requires) in
+    let upper = to_z-of_z w64 c.args.words.default_upper (upper_fits c.args.words.default_upper c.requires.upper) in
     let told = c.in_ok-report.ensures.report in
     let p = err_from_is_err_and c.from_residual-in_err-put.result c.from_residual-in_err-put.ensures.1 in
     rw (p.1, p.2)
@@ -51,19 +51,19 @@ returns-in_err-put g c =
     (g.F.Shelf.state c.read_aux.new.files) c.in_ok-mps.mps c.in_ok-aux.aux
     (rw upper at c.in_ok-mps.ensures.read) c.in_ok-mps.ensures.counts c.in_ok-aux.ensures.read
     c.in_ok-aux.ensures.counts
-    (g.O.Sink.state c.args.out.now) (g.O.Sink.state c.put.new.self) told.statement c.in_ok-report.report.text.items
-    c.in_ok-report.ensures.few told.right told.spelled
+    (g.O.Sink.state c.args.out.now) (g.O.Sink.state c.put.new.self) told.outcome c.in_ok-report.report.text.items
+    told.solved told.done told.spelled
     (rw c.deref.ensures.value at c.in_err-put.ensures.err) c.in_err-put.ensures.fault)
 
 pub returns : goal.returns
 returns g c =
     let asked = solve_asked c.args.words in
-    let upper = to_z-of_z w64 c.args.words.default_upper (upper_fits c.args.words.default_upper c.requires) in
+    let upper = to_z-of_z w64 c.args.words.default_upper (upper_fits c.args.words.default_upper c.requires.upper) in
     let told = c.in_ok-report.ensures.report in
     answered asked (g.F.Shelf.state c.args.files.now) (g.F.Shelf.state c.read_mps.new.files)
     (g.F.Shelf.state c.read_aux.new.files) c.in_ok-mps.mps c.in_ok-aux.aux
     (rw upper at c.in_ok-mps.ensures.read) c.in_ok-mps.ensures.counts c.in_ok-aux.ensures.read
     c.in_ok-aux.ensures.counts
-    (g.O.Sink.state c.args.out.now) (g.O.Sink.state c.put.new.self) told.statement c.in_ok-report.report.text.items
-    c.in_ok-report.ensures.few told.right told.spelled c.in_ok-report.report.answer told.same
+    (g.O.Sink.state c.args.out.now) (g.O.Sink.state c.put.new.self) told.outcome c.in_ok-report.report.text.items
+    told.solved told.done told.spelled c.in_ok-report.report.answer told.same
     (rw c.deref.ensures.value at c.in_ok-put.ensures.ok) c.in_ok-put.ensures.fault

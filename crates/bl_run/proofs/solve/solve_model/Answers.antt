@@ -1,10 +1,27 @@
-use Rattle.std.proofs.Common.{◌∙◌, ap, sym, length, List}
-use Rattle.bl_terms.specs.Programs.{columns}
+use Rattle.std.proofs.Common.{◌∙◌, ap, sym, subst, length, List}
+use Rattle.std.specs.Prelude.{IfOk, IfErr}
+use Rattle.bl_terms.specs.Programs.{Program, columns}
 use Rattle.bl_raw.specs.declared.raw.RawColumn.{RawColumn}
+use Rattle.bl_run.specs.declared.solve.Report.{Report}
+use Rattle.bl_run.specs.Steps.{IsReport, FailsToSolve, solve_asked}
 use Rattle.bl_run.proofs.SolveLemmas.{program-columns}
 use Rattle.bl_run.proofs.solve.solve_model.Goals as goal
 
-pub report_of-requires-clause-columns : goal.report_of-requires-clause-columns
-report_of-requires-clause-columns c =
+pub told_of-requires-clause-columns : goal.told_of-requires-clause-columns
+told_of-requires-clause-columns c =
     ap (λ (cs : List RawColumn). length cs) c.as_slice.ensures
-    ∙ sym (ap columns c.in_ok-model.ensures ∙ program-columns _ _)
+    ∙ sym (ap columns (c.in_ok-outcome.ensures.program ∙ c.in_ok-model.ensures) ∙ program-columns _ _)
+
+pub returns-clause-report : goal.returns-clause-report
+returns-clause-report c =
+    let words = solve_asked c.args.words in
+    let P : List RawColumn → Program → Type 0 =
+    λ cs p. IfOk c.told_of.result (λ (r : Report). IsReport cs p words r.answer r.text.items) in
+    let own = c.in_ok-outcome.outcome.book.ledger.book.program in
+    subst (λ (p : Program). P c.args.mps.now.columns p) (c.in_ok-outcome.ensures.program ∙ c.in_ok-model.ensures)
+    (subst (λ (cs : List RawColumn). P cs own) c.as_slice.ensures c.told_of.ensures.report)
+
+pub returns-clause-failed : goal.returns-clause-failed
+returns-clause-failed c =
+    subst (λ (p : Program). IfErr c.told_of.result (FailsToSolve p (solve_asked c.args.words)))
+    (c.in_ok-outcome.ensures.program ∙ c.in_ok-model.ensures) c.told_of.ensures.failed
