@@ -1,8 +1,9 @@
 //! The elimination.
-ghost use Rattle.bl_terms.specs.Bounds.{Fits};
+ghost use Rattle.bl_limits.specs.declared.TheConstants.{MAX_COLUMNS};
+ghost use Rattle.bl_terms.specs.Bounds.{IsProblem};
 ghost use Rattle.bl_elimination.specs.Elimination.{IsGiven, elimination};
 ghost use Rattle.bl_elimination.specs.Inverses.{IsBasis};
-ghost use Rattle.std.specs.Prelude.{IfOk};
+ghost use Rattle.std.specs.Prelude.{◌≤◌, ◌<◌, ◌^◌, length, IfOk};
 
 use crate::basis::{Basis, NoBasis};
 use crate::inverse::basis;
@@ -13,7 +14,9 @@ use std::alloc::Global;
 /// The basis of the problem's rows, which are the candidates in their order: the first of them that are linearly
 /// independent, as many as there are columns. The right-hand sides, the cost and the box count for nothing.
 pub fn eliminate(alloc: Global, candidates: &Problem<'_>) -> Result<Basis, NoBasis>
-    requires { Fits candidates.now }
+    requires shape { IsProblem candidates.now }
+    requires few_columns { length candidates.now.cost ≤ MAX_COLUMNS }
+    requires few_rows { length candidates.now.rows < 2 ^ 32 }
     ensures exact { IsGiven (elimination candidates.now) result }
     ensures inverse { IfOk result (IsBasis candidates.now) }
 {

@@ -1,6 +1,6 @@
 //! What is kept, candidate by candidate.
 ghost use Rattle.std.specs.Prelude.{◌≡◌, ◌≢◌, ◌+◌, ◌<◌, pos, length, Some, None, IfOk, OnOk, MatchResult, IsOk, Err};
-ghost use Rattle.std.specs.Prelude.{Result, ◌≤◌, All};
+ghost use Rattle.std.specs.Prelude.{Result, ◌≤◌, ◌^◌, All};
 ghost use Rattle.bl_simplex.specs.Rationals.{fraction_at};
 ghost use Rattle.bl_elimination.specs.declared.basis.NoBasis.TheVariants.{TooLarge};
 ghost use Rattle.bl_elimination.specs.Elimination.{Kept as KeptRows, nothing_kept, with_row, kept_with, kept_after};
@@ -12,7 +12,7 @@ use crate::row::Row;
 use crate::rows::{clear, reduce_by};
 use bl_bound::ProblemRow;
 use bl_frac::WideFrac;
-use bl_limits::{MAX_COLUMNS, MAX_PROBLEM_ROWS};
+use bl_limits::MAX_COLUMNS;
 use smallvec::SmallVec;
 use std::alloc::{AllocError, Global};
 use std::marker::Model;
@@ -123,7 +123,7 @@ pub(crate) fn kept_rows(
     columns: usize,
 ) -> Result<Kept, NoBasis>
     requires few_columns { columns ≤ MAX_COLUMNS }
-    requires few_rows { length rows.now ≤ MAX_PROBLEM_ROWS }
+    requires few_rows { length rows.now < 2 ^ 32 }
     requires sizes { All (λ row. length row.coef ≡ columns) rows.now }
     ensures exact { IsGiven (eliminated columns nothing_kept 0 rows.now) result }
     ensures shape { IfOk result (HasShape (columns + columns)) }

@@ -5,14 +5,14 @@ use Rattle.std.specs.Prelude.{All, slice_index_or, ℤ, ◌<ℤ◌}
 use Rattle.std.proofs.lemmas.List.{length-map, get_or-map}
 use Rattle.std.proofs.lemmas.List.Elements.{All-nil, All-cons, All-head, All-tail}
 use Rattle.std.specs.Int.{w128}
-use Rattle.bl_limits.specs.declared.TheConstants.{MAX_PROBLEM_ROWS}
+use Rattle.bl_limits.specs.declared.TheConstants.{MAX_COLUMNS}
 use Rattle.bl_whole.specs.Sums.{dot}
 use Rattle.bl_whole.specs.Within.{PartialDotsFit}
 use Rattle.bl_terms.specs.Points.{Area, Linear, InArea, IsWithinArea}
 use Rattle.bl_terms.proofs.PointLemmas.{point_of_part}
 use Rattle.bl_terms.specs.Programs.{Program, columns, root, InBox, link_of, follower_at}
 use Rattle.bl_terms.specs.Responses.{IsResponse, response_cost}
-use Rattle.bl_terms.specs.Bounds.{Problem, Fits, linear_at, no_linear}
+use Rattle.bl_terms.specs.Bounds.{Problem, IsProblem, linear_at, no_linear}
 use Rattle.bl_cut_terms.specs.declared.parts.Tight.{Tight}
 use Rattle.bl_cut_terms.specs.declared.parts.Tight.TheVariants.{Row}
 use Rattle.bl_cut_terms.specs.NoGoods.{NoGoodCut, tight_row, tight_rows, IsUnit, Inverts, IsThere, last_step}
@@ -137,23 +137,24 @@ candidate_rows_fit p a earlier z candidates rows model box cuts within c e =
     subst (AreRows (columns p)) (sym e) (rows_fit p a earlier candidates model box within.columns cuts
     (candidates_there p a earlier z candidates c) (candidates_of p a earlier z candidates c))
 
-pub problem_fits : (p : Program) (a : Area) (rows : List Linear) (q : Problem) → IsModel p → IsBox a
-    → IsWithinArea a (root p) → AreRows (columns p) rows → length rows ≤ MAX_PROBLEM_ROWS
-    → q ≡ record { rows = rows; cost = p.cost; area = a } → Fits q
-problem_fits p a rows q model box within fit few e = subst Fits (sym e) (record {
-  shape = record {
-    box = box.area;
-    cost_columns = model.sound.cost_columns ∙ sym within.columns;
-    row_columns = λ i b. fit.columns i b ∙ sym within.columns;
-  };
-  few_columns = box.few;
-  few_rows = few;
-  coefs = fit.coefs;
-  rhs = fit.rhs;
-  costs = record { each = λ k b. model.limits.costs k };
-  lower_bounds = box.lower_bounds;
-  upper_bounds = box.upper_bounds;
+pub problem_of_rows : (p : Program) (a : Area) (rows : List Linear) (q : Problem) → IsModel p → IsBox a
+    → IsWithinArea a (root p) → AreRows (columns p) rows → q ≡ record { rows = rows; cost = p.cost; area = a }
+    → IsProblem q
+problem_of_rows p a rows q model box within fit e = subst IsProblem (sym e) (record {
+  box = box.area;
+  cost_columns = model.sound.cost_columns ∙ sym within.columns;
+  row_columns = λ i b. fit.columns i b ∙ sym within.columns;
 })
+
+pub few_costs : (p : Program) (a : Area) (rows : List Linear) (q : Problem) → IsModel p → IsBox a
+    → IsWithinArea a (root p) → q ≡ record { rows = rows; cost = p.cost; area = a } → length q.cost ≤ MAX_COLUMNS
+few_costs p a rows q model box within e = subst (λ (x : Problem). length x.cost ≤ MAX_COLUMNS) (sym e)
+    (subst (λ (n : ℕ). n ≤ MAX_COLUMNS) (sym (model.sound.cost_columns ∙ sym within.columns)) box.few)
+
+pub count_rows : (p : Program) (a : Area) (earlier : List NoGoodCut) (candidates : List Tight) (rows : List Linear)
+    → rows ≡ tight_rows p a (local_rows earlier) candidates → length rows ≡ length candidates
+count_rows p a earlier candidates rows e =
+    ap length e ∙ length-map candidates (tight_row p a (local_rows earlier))
 
 -- ---- the cut that is made
 
@@ -162,10 +163,6 @@ parts_at : (p q : Program) (a b : Area) (earlier : List NoGoodCut) (z y : List �
 parts_at p q a b earlier z y parts n e f m =
     subst (λ (x : Program). AreMadeParts x a earlier z y parts n) e
     (subst (λ (x : Area). AreMadeParts q x earlier z y parts n) f m)
-
-pub parts_shown : (p q : Program) (a b : Area) (earlier : List NoGoodCut) (z y : List ℤ) (parts : CutParts) (n : ℕ)
-    → q ≡ p → b ≡ a → AreMadeParts q b earlier z y parts n → IsShown p a earlier parts
-parts_shown p q a b earlier z y parts n e f m = (parts_at p q a b earlier z y parts n e f m).shown
 
 pub made_cut : (p q : Program) (a b : Area) (earlier : List NoGoodCut) (z y : List ℤ) (parts : CutParts) (n : ℕ)
     (c : NoGoodCut) → q ≡ p → b ≡ a → AreMadeParts q b earlier z y parts n → IsCutOf p a earlier parts c
@@ -179,17 +176,6 @@ made_cut p q a b earlier z y parts n c e f m cut own =
       cut = subst (λ (x : CutParts). IsCutOf p a earlier x c) here.parts_are cut;
       own = subst (λ (x : CutParts). IsOwnStep p a earlier x (last_step c.steps)) here.parts_are own;
     }
-
-pub cut_at_point : (p q : Program) (a b : Area) (earlier : List NoGoodCut) (z y : List ℤ) (parts : CutParts) (n : ℕ)
-    (c : NoGoodCut) → AreMadeParts q b earlier z y parts n → IsCutOf p a earlier parts c
-    → IsOwnStep p a earlier parts (last_step c.steps) → IsProvedCut c → IsCutAt p a z y c
-cut_at_point p q a b earlier z y parts n c m cut own proved = record {
-  proved = proved;
-  program = cut.program;
-  area = own.area;
-  point = ap (λ (x : CutParts). x.point) own.parts_are ∙ ap (λ (x : CutParts). x.point) m.parts_are;
-  response = ap (λ (x : CutParts). x.response) own.parts_are ∙ ap (λ (x : CutParts). x.response) m.parts_are;
-}
 
 pub large_row : (p q : Program) (a b : Area) (earlier : List NoGoodCut) (z y : List ℤ) (parts : CutParts) (n : ℕ)
     → q ≡ p → b ≡ a → AreMadeParts q b earlier z y parts n
@@ -208,11 +194,6 @@ large_row p q a b earlier z y parts n e f m large =
       }),
     )
 
-pub no_cut_at : (p q : Program) (a b : Area) (earlier : List NoGoodCut) (z y : List ℤ) (r : NoCut) → q ≡ p → b ≡ a
-    → IsNoCut q b earlier z y r → IsNoCut p a earlier z y r
-no_cut_at p q a b earlier z y r e f h =
-    subst (λ (x : Program). IsNoCut x a earlier z y r) e (subst (λ (x : Area). IsNoCut q x earlier z y r) f h)
-
 -- the elimination's outcome is that of the candidates, and its failure is that of the cut
 pub is_eliminated : (p : Program) (a : Area) (earlier : List NoGoodCut) (z : List ℤ) (candidates : List Tight)
     (rows : List Linear) (outcome : Result Basis NoBasis) → rows ≡ tight_rows p a (local_rows earlier) candidates
@@ -223,27 +204,6 @@ is_eliminated p a earlier z candidates rows outcome e c gives = record {
   all = c;
   gives = subst (λ (rs : List Linear). elimination (record { rows = rs; cost = p.cost; area = a }) ≡ outcome) e gives;
 }
-
-pub elimination_fails : (p : Program) (a : Area) (earlier : List NoGoodCut) (z y : List ℤ) (candidates : List Tight)
-    (rows : List Linear) (reason : NoBasis) → rows ≡ tight_rows p a (local_rows earlier) candidates
-    → response_cost p y <ℤ follower_at p z → AreCandidates p a earlier z candidates
-    → IsGiven (elimination (record { rows = rows; cost = p.cost; area = a })) (Err reason)
-    → IsNoCut p a earlier z y (fails_as reason)
-elimination_fails p a earlier z y candidates rows (no_basis.NotUnique n) e cheaper c given = (
-  cheaper,
-  record {
-    candidates = candidates;
-    eliminated = is_eliminated p a earlier z candidates rows (Err (no_basis.NotUnique n)) e c given;
-  },
-)
-elimination_fails p a earlier z y candidates rows (no_basis.TooLarge n) e cheaper c given = (
-  cheaper,
-  inl (record {
-    candidates = candidates;
-    eliminated = is_eliminated p a earlier z candidates rows (Err (no_basis.TooLarge n)) e c given;
-  }),
-)
-elimination_fails p a earlier z y candidates rows no_basis.Memory e cheaper c given = tt
 
 basis_at : (p : Program) (a : Area) (earlier : List NoGoodCut) (candidates : List Tight) (rows : List Linear)
     (basis : Basis) → rows ≡ tight_rows p a (local_rows earlier) candidates

@@ -1,2 +1,3 @@
 pub mod Chosen
 pub mod KeptLemmas
+pub mod Taken

@@ -1,6 +1,6 @@
 -- Trusted. The cut that the elimination makes of the candidates at a point, and why there is none.
 use Rattle.std.specs.Prelude.{◌≡◌, ℕ, ◌⊎◌, ℤ, ◌≤ℤ◌, ◌<ℤ◌, List, length, map, Result, Ok, Err}
-use Rattle.bl_terms.specs.Points.{Area}
+use Rattle.bl_terms.specs.Points.{Area, Meets}
 use Rattle.bl_terms.specs.Programs.{Program, follower_at}
 use Rattle.bl_terms.specs.Responses.{response_cost}
 use Rattle.bl_cut_terms.specs.declared.parts.Tight.{Tight}
@@ -63,13 +63,14 @@ pub record IsMadeCut (p : Program) (a : Area) (earlier : List NoGoodCut) (z y : 
   pub cut : IsCutOf p a earlier (parts_of candidates basis z y) c
   pub own : IsOwnStep p a earlier (parts_of candidates basis z y) (last_step c.steps)
 
--- the cut is a proved one of the program, on this box, with this point and this response
+-- the cut is a proved one of the program, on this box, with this point and this response, and takes the point away
 pub record IsCutAt (p : Program) (a : Area) (z y : List ℤ) (c : NoGoodCut) : Type 0 where
   pub proved : IsProvedCut c
   pub program : c.program ≡ p
   pub area : (cut_of c).area ≡ a
   pub point : (last_step c.steps).parts.point ≡ z
   pub response : (last_step c.steps).parts.response ≡ y
+  pub away : ¬ Meets (cut_of c).row z
 
 -- the response costs the follower no less than the point, and both costs are told
 abbrev pub IsDearer : Program → List ℤ → List ℤ → NoCut → Type 0

@@ -1,5 +1,5 @@
 //! The rows that the elimination keeps.
-ghost use Rattle.std.specs.Prelude.{◌≡◌, ◌<◌, ◌≤◌, length, map, All, IfOk};
+ghost use Rattle.std.specs.Prelude.{◌≡◌, ◌<◌, ◌^◌, length, map, All, IfOk};
 ghost use Rattle.bl_terms.specs.Points.{IsWithinArea};
 ghost use Rattle.bl_terms.specs.Programs.{columns as column_count, root};
 ghost use Rattle.bl_elimination.specs.Elimination.{IsGiven, elimination};
@@ -11,7 +11,6 @@ ghost use Rattle.bl_nogood.specs.Making.{parts_of as parts_with};
 use bl_bound::Problem;
 use bl_cut::{CutParts, CutRow, Tight};
 use bl_elimination::{Basis, NoBasis, eliminate};
-use bl_limits::MAX_PROBLEM_ROWS;
 use bl_model::{Bilevel, Box2};
 use bl_raw::Listed;
 use std::alloc::{AllocError, Global};
@@ -34,7 +33,7 @@ fn problem_of<'a>(
     Ok(problem)
 }
 
-/// The basis of the rows. More than `MAX_PROBLEM_ROWS` of them are want of memory.
+/// The basis of the rows.
 pub(crate) fn basis_of(
     alloc: Global,
     model: &Bilevel,
@@ -43,14 +42,12 @@ pub(crate) fn basis_of(
 ) -> Result<Basis, NoBasis>
     requires within { IsWithinArea area.now (root model.now) }
     requires rows { AreRows (column_count model.now) rows.now }
+    requires few { length rows.now < 2 ^ 32 }
     ensures exact { IsGiven (elimination (record { rows = rows.now; cost = model.now.cost; area = area.now })) result }
     ensures basis { IfOk result (IsBasis (record { rows = rows.now; cost = model.now.cost; area = area.now })) }
 {
     let _columns = model.lo();
     let _sides = area.lo();
-    if rows.len() > MAX_PROBLEM_ROWS {
-        return Err(NoBasis::Memory);
-    }
     let problem = problem_of(alloc, model, area, rows)?;
     eliminate(alloc, &problem)
 }

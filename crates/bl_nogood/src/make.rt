@@ -51,7 +51,7 @@ fn made_parts(
     compare(model, point, response)?;
     let candidates = candidates(alloc, model, area, earlier, point)?;
     let rows = tight_rows(alloc, model, area, earlier, &candidates)?;
-    let count = candidates.len();
+    let count = rows.len();
     if count > u32::MAX as usize {
         return Err(NoCut::Memory);
     }

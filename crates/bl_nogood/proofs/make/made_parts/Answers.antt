@@ -1,7 +1,7 @@
 use Rattle.std.proofs.Common.{◌≡◌, ◌∙◌, ap, sym, subst, All, length, rules}
 use Rattle.bl_cut_terms.specs.NoGoods.{IsThere, tight_rows}
 use Rattle.bl_cut_proof.specs.Proving.{local_rows}
-use Rattle.bl_nogood.proofs.KeptLemmas.{candidates_there, candidate_rows_fit, kept_within, made_parts}
+use Rattle.bl_nogood.proofs.KeptLemmas.{candidates_there, candidate_rows_fit, kept_within, count_rows, made_parts}
 use Rattle.bl_nogood.proofs.make.made_parts.Goals as goal
 
 pub tight_rows-requires-clause-there : goal.tight_rows-requires-clause-there
@@ -37,7 +37,10 @@ returns-clause-ok c =
     let p = c.args.model.now in
     let a = c.args.area.now in
     let earlier = c.args.earlier.now in
-    let count : c.len-count.result ≡ length c.in_ok-candidates.candidates.items = search rules in
+    let items = c.in_ok-candidates.candidates.items in
+    let rows = c.in_ok-rows.ensures ∙ ap (tight_rows p a (local_rows earlier)) c.deref.ensures.value in
+    let all : c.len-count.result ≡ length c.in_ok-rows.rows.items = search rules in
+    let count = all ∙ count_rows p a earlier items c.in_ok-rows.rows.items rows in
     made_parts p a earlier c.args.point.now c.args.response.now c.in_ok-candidates.candidates.items c.deref-3.result.now
     c.deref-2.result.now c.in-Ok.basis c.in_ok-parts.parts c.len-count.result c.requires.within c.requires.point
     c.requires.response c.in_ok-compare.ensures c.in_ok-candidates.ensures c.deref-3.ensures.value
