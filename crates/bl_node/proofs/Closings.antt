@@ -1,19 +1,18 @@
 -- Leaves that close the job's box.
-use Rattle.std.proofs.Common.{◌≡◌, ◌<◌, ◌≤◌, refl, sym, subst, ap, ◌∙◌, arith, inl, inr}
-use Rattle.std.proofs.Common.{List, [], ◌∷◌, ◌++◌, length}
-use Rattle.std.specs.Prelude.{ℤ, pos, Option, Some, None, map}
+use Rattle.std.proofs.Common.{◌≡◌, refl, sym, subst, ◌∙◌, arith}
+use Rattle.std.proofs.Common.{List, [], length}
+use Rattle.std.specs.Prelude.{ℤ, pos, Option, Some, None}
 use Rattle.std.proofs.lemmas.List.{get_or_push, length-map}
-use Rattle.bl_whole.specs.Sums.{component}
 use Rattle.bl_terms.specs.Points.{Area, Fixes}
 use Rattle.bl_terms.specs.Programs.{Program, inequality}
 use Rattle.bl_terms.specs.Responses.{Entry, Best, NoResponse}
-use Rattle.bl_terms.specs.Bounds.{Problem, Multipliers, Proves}
+use Rattle.bl_terms.specs.Bounds.{Multipliers, Proves}
 use Rattle.bl_fproof.specs.Entries.{Admitted}
 use Rattle.bl_fproof.specs.Steps.{entry_of}
 use Rattle.bl_cut_terms.specs.NoGoods.{NoGoodCut}
-use Rattle.bl_leaf_terms.specs.Incumbents.{Incumbent, IsEntryFor, AreIncumbents, cutoff_of}
+use Rattle.bl_leaf_terms.specs.Incumbents.{Incumbent, IsEntryFor, AreIncumbents}
 use Rattle.bl_leaf_terms.specs.Nodes.{plain_problem, fixed_link, HasValue}
-use Rattle.bl_leaf_terms.specs.Leaves.{Evidence, IsBounded, HasNoAnswer, IsShownClosed, ClosedLeaf, IsClosedLeaf}
+use Rattle.bl_leaf_terms.specs.Leaves.{Evidence, IsBounded, HasNoAnswer, IsShownClosed, IsClosedLeaf}
 use Rattle.bl_tree.specs.Laws.{with_zero}
 use Rattle.bl_tree.proofs.PlainLaws.{plain_proof_closes}
 use Rattle.bl_node.specs.Works.{Job, IsSoundJob}

@@ -1,6 +1,6 @@
 -- Licences to divide the job's box.
-use Rattle.std.proofs.Common.{◌≡◌, ℕ, refl, sym, ◌∙◌, ap, subst, arith, List}
-use Rattle.std.specs.Prelude.{ℤ, ◌≤ℤ◌, ◌<ℤ◌, Option, Some, None, MatchOption}
+use Rattle.std.proofs.Common.{◌≡◌, ℕ, sym, ◌∙◌, ap, subst, arith, List}
+use Rattle.std.specs.Prelude.{ℤ, Option, Some, None, MatchOption}
 use Rattle.std.proofs.lemmas.Int.{ints}
 use Rattle.bl_terms.specs.Points.{Area, Fixes}
 use Rattle.bl_terms.specs.Programs.{Program}
@@ -16,7 +16,8 @@ use Rattle.bl_leaf_terms.specs.Nodes.{plain_problem, HasValue, IsFreeLicence, Is
 use Rattle.bl_leaf_terms.specs.Nodes.{IsNodeLicence}
 use Rattle.bl_book_terms.specs.Books.{IsCurrent}
 use Rattle.bl_node.specs.Works.{Job, IsSoundJob, IsDividing}
-use Rattle.bl_node.specs.Standing.{best_of, cutoff_with, IsFound}
+use Rattle.bl_node.specs.NodeCuts.{IsTried}
+use Rattle.bl_node.specs.Standing.{best_of, cutoff_with, IsFound, AreNodeCuts}
 use Rattle.bl_node.proofs.Closings.{leading_incumbent}
 
 -- a licence of the plain problem
@@ -83,13 +84,17 @@ node_licence j found p a best entry why job is ep ea eb licensed =
 -- the halves and the licence are of the job's box
 pub dividing : (j : Job) (found : Option Incumbent) (h : Halved) (licence : NodeLicence) (cuts : List NoGoodCut)
     (a : Area) (column : ℕ) (at : ℤ) (p : Program) (b : Area) (best : Option Incumbent) (entry : Option Admitted)
-    (why : Why) → IsFound j found → h ≡ record { area = a; column = column; at = at } → a ≡ j.area
-    → licence ≡ record { program = p; area = b; cutoff = best; entry = entry; why = why } → p ≡ j.program → b ≡ j.area
-    → best ≡ best_of found j.best → cuts ≡ j.cuts → IsDividing j h licence cuts
-dividing j found h licence cuts a column at p b best entry why is eh ea el ep eb ebest ecuts = record {
+    (why : Why) (made : List NoGoodCut) → IsFound j found → h ≡ record { area = a; column = column; at = at }
+    → a ≡ j.area → licence ≡ record { program = p; area = b; cutoff = best; entry = entry; why = why }
+    → p ≡ j.program → b ≡ j.area → best ≡ best_of found j.best → AreNodeCuts j cuts made
+    → IsTried j.program j.area j.node j.cuts made why → IsDividing j h licence cuts
+dividing j found h licence cuts a column at p b best entry why made is eh ea el ep eb ebest are tried = record {
   halves = ap (λ (x : Halved). x.area) eh ∙ ea;
   program = ap (λ (x : NodeLicence). x.program) el ∙ ep;
   area = ap (λ (x : NodeLicence). x.area) el ∙ eb;
   current = current_with j found licence.cutoff is (ap (λ (x : NodeLicence). x.cutoff) el ∙ ebest);
-  cuts = ecuts;
+  made = made;
+  are_made = are.are_made;
+  cuts = are.all_are;
+  tried = subst (IsTried j.program j.area j.node j.cuts made) (sym (ap (λ (x : NodeLicence). x.why) el)) tried;
 }

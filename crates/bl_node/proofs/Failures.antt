@@ -1,10 +1,8 @@
 -- Links of points of the job's box, and how the follower's solver fails there.
 use Rattle.std.proofs.Common.{◌≡◌, ℕ, ◌<◌, refl, sym, subst, arith, List, length}
-use Rattle.std.specs.Prelude.{ℤ, ◌≤ℤ◌, slice_index, Option, Some, None, MatchOption, Contains, Result, Ok, Err, IfErr}
+use Rattle.std.specs.Prelude.{ℤ, slice_index, Option, Some, None, Result, Ok, Err, IfErr}
 use Rattle.std.specs.Result.{IsErrAnd}
-use Rattle.std.proofs.lemmas.Int.{ints}
-use Rattle.bl_whole.specs.Sums.{component}
-use Rattle.bl_terms.specs.Points.{Area, IsArea, InArea, IsWithinArea, IsOnePoint, Fixes}
+use Rattle.bl_terms.specs.Points.{Area, InArea, IsWithinArea, IsOnePoint, Fixes}
 use Rattle.bl_terms.specs.Programs.{Program, IsProgram, columns, root, link_of}
 use Rattle.bl_terms.proofs.PlaceLemmas.{values_at-entry}
 use Rattle.bl_model.proofs.BoxLemmas.{links_below, low_point}

@@ -1,9 +1,8 @@
 -- How far the cutoff can fall: the costs of incumbents are small.
-use Rattle.std.proofs.Common.{◌≡◌, ◌^◌, ◌<◌, ℕ, List, length, sym, subst, arith}
+use Rattle.std.proofs.Common.{◌≡◌, ◌≢◌, ◌^◌, ◌<◌, ◌≤◌, ◌∙◌, List, refl, sym, ap, subst, arith}
 use Rattle.std.specs.Prelude.{ℤ, pos, ◌≤ℤ◌, ◌<ℤ◌, ◌+ℤ◌, Option, Some, None}
 use Rattle.std.proofs.lemmas.Int.{ints, by_lt_z}
 use Rattle.bl_limits.specs.declared.TheConstants.{MAX_NUMBER}
-use Rattle.bl_whole.specs.Sums.{dot}
 use Rattle.bl_whole.specs.Within.{IsWithin, AreWithin}
 use Rattle.bl_whole.proofs.WithinLemmas.{within_low, within_high, within_more, within_dot}
 use Rattle.bl_terms.specs.Programs.{Program, InBox, cost_at}
@@ -12,8 +11,12 @@ use Rattle.bl_bound.specs.Plain.{CostsLess}
 use Rattle.bl_model.specs.View.{IsModel}
 use Rattle.bl_model.proofs.PointLemmas.{InBox-within}
 use Rattle.bl_leaf_terms.specs.Incumbents.{Incumbent, IsIncumbent, AreIncumbents, cost_of, cutoff_of}
+use Rattle.bl_cut_terms.specs.NoGoods.{NoGoodCut}
+use Rattle.bl_node.specs.declared.rounds.Round.{Round}
+use Rattle.bl_node.specs.declared.rounds.Round.TheVariants as round
+use Rattle.bl_node.specs.CutOutcomes.{IsRound}
 use Rattle.bl_node.specs.Works.{Job, IsSoundJob}
-use Rattle.bl_node.specs.Standing.{best_of, cutoff_with, IsFound, IsSmallValue, height}
+use Rattle.bl_node.specs.Standing.{best_of, cutoff_with, IsFound, IsFoundAfter, IsNoHigher, IsSmallValue, height}
 
 cost_small : (p : Program) (z : List ℤ) → IsModel p → InBox p z → IsWithin (2 ^ 62) (cost_at p z)
 cost_small p z m inside =
@@ -77,3 +80,40 @@ pub taken_falls : (j : Job) (old new : Option Incumbent) (f : Incumbent) → IsS
 taken_falls j old new f job is is' taken less =
     judged_falls j old new (cost_of f) job is is' less
     (subst (λ (o : Option Incumbent). ¬ CostsLess (cutoff_with j o) (cost_of f)) (sym taken) (not_itself (cost_of f)))
+
+-- a cutoff that isn't higher and isn't the same is lower
+le_antisym : (u v : ℤ) → u ≤ℤ v → v ≤ℤ u → u ≡ v
+le_antisym u v g h = omega (arith, ints)
+
+other_falls : (u v : Option ℤ) → IsSmallValue u → IsSmallValue v → IsNoHigher u v → u ≢ v → height v < height u
+other_falls None None small small' lower other = absurd (other refl)
+other_falls None (Some v) small small' lower other = first_height v small'
+other_falls (Some u) None small small' lower other = absurd lower
+other_falls (Some u) (Some v) small small' lower other =
+    by_lt_z v u (λ less. lower_height v u small' small less)
+    (λ more. absurd (other (ap Some (le_antisym u v more lower))))
+
+pub cutoff_falls : (j : Job) (old new : Option Incumbent) (u v : Option ℤ) → IsSoundJob j → IsFound j old
+    → IsFoundAfter j old new → u ≡ cutoff_with j old → v ≡ cutoff_with j new → u ≢ v
+    → height (cutoff_with j new) < height (cutoff_with j old)
+cutoff_falls j old new u v job is after eu ev other =
+    other_falls (cutoff_with j old) (cutoff_with j new) (small_cutoff j old job is)
+    (small_cutoff j new job after.found) after.lower (λ same. other (eu ∙ same ∙ sym ev))
+
+-- what doesn't fall isn't higher
+height_no_higher : (u v : Option ℤ) → IsSmallValue u → IsSmallValue v → IsNoHigher u v → height v ≤ height u
+height_no_higher None None small small' lower = omega arith
+height_no_higher None (Some v) small small' lower = let h = first_height v small' in omega arith
+height_no_higher (Some u) None small small' lower = absurd lower
+height_no_higher (Some u) (Some v) small small' lower =
+    let new = height_by v small' in let old = height_by u small in omega (arith, ints)
+
+-- a round from what is found later is one from what was found before
+pub later_round : (j : Job) (a b c : Option Incumbent) (made : List NoGoodCut) (r : Round) → IsSoundJob j → IsFound j a
+    → IsFoundAfter j a b → IsRound j b c made r → IsRound j a c made r
+later_round j a b c made (round.Closed leaf) job is after h = h
+later_round j a b c made (round.Stuck why) job is after h = h
+later_round j a b c made round.Fell job is after h =
+    let low = height_no_higher (cutoff_with j a) (cutoff_with j b) (small_cutoff j a job is)
+    (small_cutoff j b job after.found) after.lower in
+    omega arith

@@ -4,3 +4,4 @@ pub mod Falls
 pub mod Failures
 pub mod Closings
 pub mod Divisions
+pub mod MadeCuts

@@ -1,23 +1,26 @@
 -- Whole points of a box that fixes the linking columns are incumbents.
-use Rattle.std.proofs.Common.{◌≡◌, ℕ, zero, suc, ◌+◌, ◌<◌, refl, sym, subst, ap, ◌∙◌, arith}
+use Rattle.std.proofs.Common.{◌≡◌, ℕ, zero, suc, ◌+◌, ◌<◌, refl, sym, subst, arith}
 use Rattle.std.proofs.Common.{List, [], ◌∷◌, ◌++◌, length, map}
 use Rattle.std.specs.Prelude.{ℤ, ◌≤ℤ◌, ◌<ℤ◌, ◌↔◌, Bool, true, false, IsTrue, Option, Some, None}
 use Rattle.std.proofs.lemmas.Int.{ints}
 use Rattle.std.proofs.lemmas.List.{get_or-map, length-map}
-use Rattle.bl_terms.specs.Points.{Area, InArea, IsWithinArea, Fixes, Meets, Linear}
+use Rattle.bl_terms.specs.Points.{Area, InArea, IsWithinArea, Meets, Linear}
 use Rattle.bl_terms.specs.Programs.{Program, Row, InBox, MeetsRows, inequality, row_at, no_row, root, link_of}
 use Rattle.bl_terms.specs.Programs.{cost_at, follower_at}
-use Rattle.bl_terms.specs.Bounds.{Problem, IsPoint, linear_at, no_linear}
+use Rattle.bl_terms.specs.Bounds.{IsPoint, linear_at, no_linear}
 use Rattle.bl_terms.specs.Responses.{Entry, Best, NoResponse, IsBest, IsTrueEntry}
 use Rattle.bl_terms.proofs.PointLemmas.{point_of_part}
-use Rattle.bl_bound.specs.Plain.{CostsLess}
+use Rattle.bl_bound.specs.Plain.{CostsLess, IsBetterPoint}
 use Rattle.bl_model.specs.View.{IsModel}
 use Rattle.bl_model.proofs.BoxLemmas.{link_of_box}
 use Rattle.bl_fproof.specs.Entries.{Admitted}
 use Rattle.bl_fproof.specs.Steps.{entry_of}
 use Rattle.bl_leaf_terms.specs.Incumbents.{Incumbent, IsIncumbent, IsEntryFor, IsNoBetter}
-use Rattle.bl_leaf_terms.specs.Nodes.{value_row, plain_rows, plain_problem, fixed_link, HasValue, IsBettered}
+use Rattle.bl_leaf_terms.specs.Nodes.{value_row, plain_problem, fixed_link, HasValue, IsBettered}
+use Rattle.bl_leaf_terms.specs.Leaves.{leaf_problem, value_place}
 use Rattle.bl_leaf_terms.proofs.LeafLemmas.{incumbent_law, true_entry}
+use Rattle.bl_node.specs.Works.{Job}
+use Rattle.bl_node.specs.Standing.{cutoff_with, IsBelow}
 use Rattle.bl_tree.specs.Shows.{IsOwnEntry}
 use Rattle.bl_tree.proofs.Incumbents.{answered_there, shown_by}
 
@@ -27,6 +30,12 @@ rows_first : (rows : List Row) (more : List Linear) (i : ℕ) → i < length row
 rows_first [] more i h = absurd (omega arith)
 rows_first (r ∷ rows) more zero h = refl
 rows_first (r ∷ rows) more (suc i) h = rows_first rows more i (omega arith)
+
+more_rows : (rows : List Row) (more : List Linear) (i : ℕ) → i < length rows
+    → i < length (map inequality rows ++ more)
+more_rows [] more i h = absurd (omega arith)
+more_rows (r ∷ rows) more zero h = omega arith
+more_rows (r ∷ rows) more (suc i) h = let rest = more_rows rows more i (omega arith) in omega arith
 
 row_after : (rows : List Row) (r : Linear) → linear_at (map inequality rows ++ r ∷ []) (length rows) ≡ r
 row_after [] r = refl
@@ -78,6 +87,24 @@ free_point p a z point = record {
   each = λ i b. subst (λ r. Meets r z) (get_or-map inequality p.rows i no_row no_linear b)
       (point.rows i (rw length-map b));
 }
+
+-- a point of the problem with cuts is one of the box that meets the rows and costs less than the cutoff
+pub leaf_point : (j : Job) (found : Option Incumbent) (p : Program) (a : Area) (cuts : List Linear) (z : List ℤ)
+    → p ≡ j.program → a ≡ j.area → IsBetterPoint (leaf_problem p a None cuts) (cutoff_with j found) z
+    → IsBelow j found z
+leaf_point j found p a cuts z ep ea better =
+    let here : IsBetterPoint (leaf_problem j.program j.area None cuts) (cutoff_with j found) z =
+    subst (λ (x : Program). IsBetterPoint (leaf_problem x j.area None cuts) (cutoff_with j found) z) ep
+    (subst (λ (x : Area). IsBetterPoint (leaf_problem p x None cuts) (cutoff_with j found) z) ea better) in
+    record {
+      inside = here.point.inside;
+      rows = record {
+        each = λ i b. subst (λ (r : Linear). Meets r z)
+            (rows_first j.program.rows (value_place j.program None ∷ cuts) i b)
+            (here.point.rows i (more_rows j.program.rows (value_place j.program None ∷ cuts) i b));
+      };
+      cost = here.cost;
+    }
 
 own_entry : (p : Program) (z : List ℤ) (e : Admitted) → InBox p z → IsEntryFor p (link_of p z) e → IsOwnEntry p z e
 own_entry p z e inside entry =

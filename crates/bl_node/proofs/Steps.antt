@@ -1,11 +1,11 @@
 -- What is found lowers the cutoff.
 use Rattle.std.proofs.Common.{◌≡◌, refl, sym, ◌∙◌, ap, subst, arith, List}
-use Rattle.std.specs.Prelude.{ℤ, pos, ◌≤ℤ◌, ◌<ℤ◌, Option, Some, None, MatchOption}
+use Rattle.std.specs.Prelude.{ℤ, ◌<ℤ◌, Option, Some, None, MatchOption}
 use Rattle.std.proofs.lemmas.Int.{ints}
 use Rattle.bl_terms.specs.Programs.{Program}
 use Rattle.bl_bound.specs.Plain.{CostsLess}
 use Rattle.bl_fproof.specs.Entries.{Admitted}
-use Rattle.bl_leaf_terms.specs.Incumbents.{Incumbent, IsIncumbent, AreIncumbents, cost_of, cutoff_of}
+use Rattle.bl_leaf_terms.specs.Incumbents.{Incumbent, IsIncumbent, cost_of, cutoff_of}
 use Rattle.bl_node.specs.Works.{Job}
 use Rattle.bl_node.specs.Standing.{best_of, cutoff_with, IsFound, IsNoHigher, IsFoundAfter}
 

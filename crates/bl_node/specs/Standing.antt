@@ -1,16 +1,17 @@
 -- Internal. What the work at a node has found so far.
-use Rattle.std.specs.Prelude.{◌≡◌, ◌≤ℤ◌, ◌+ℤ◌, ◌^◌, ℕ, ℤ, pos, List, Option, Some, None, MatchOption, option_map}
-use Rattle.std.specs.Prelude.{unsigned_abs}
-use Rattle.std.specs.Arc.{arc_value}
+use Rattle.std.specs.Prelude.{◌≡◌, ◌<◌, ◌≤ℤ◌, ◌+ℤ◌, ◌^◌, ℕ, suc, ℤ, pos, List, Option, Some, None, MatchOption}
+use Rattle.std.specs.Prelude.{unsigned_abs, length, Bool, IsTrue}
 use Rattle.bl_whole.specs.Within.{IsWithin}
-use Rattle.bl_terms.specs.Points.{IsOnePoint}
-use Rattle.bl_terms.specs.Programs.{cost_at}
+use Rattle.bl_terms.specs.Points.{IsOnePoint, InArea}
+use Rattle.bl_terms.specs.Programs.{cost_at, MeetsRows}
 use Rattle.bl_terms.specs.Bounds.{Proves}
 use Rattle.bl_bound.specs.Plain.{CostsLess}
 use Rattle.bl_licence.specs.Why.{IsLicence}
 use Rattle.bl_leaf_terms.specs.Incumbents.{Incumbent, AreIncumbents, cost_of, cutoff_of}
 use Rattle.bl_leaf_terms.specs.Nodes.{plain_problem, IsBettered, IsFreeLicence}
-use Rattle.bl_tree.specs.declared.task.Task.{Task}
+use Rattle.bl_cut_terms.specs.NoGoods.{NoGoodCut}
+use Rattle.bl_limits.specs.declared.TheConstants.{CUT_NODES}
+use Rattle.bl_node.specs.NodeCuts.{AreMade, with_cuts, HasTried, BreaksOne}
 use Rattle.bl_node.specs.Works.{Job}
 use Rattle.bl_node.specs.declared.relaxation.Relaxation.{Relaxation}
 use Rattle.bl_node.specs.declared.relaxation.Relaxation.TheVariants.{Closed, Stuck}
@@ -54,6 +55,31 @@ IsRelaxedWith j value found (Stuck why) =
 abbrev pub IsRelaxedFree : Job → Option Incumbent → Relaxation → Type 0
 IsRelaxedFree j found (Closed w) = Proves (plain_problem j.program j.area None) (cutoff_with j found) w
 IsRelaxedFree j found (Stuck why) = IsFreeLicence j.program j.area (cutoff_with j found) why
+
+-- the cuts at a node: those that were made there, and all that its halves will inherit
+pub record AreNodeCuts (j : Job) (all made : List NoGoodCut) : Type 0 where
+  pub are_made : AreMade j.program j.area j.node made
+  pub all_are : all ≡ with_cuts j.cuts made
+
+-- a cut was tried at z, where that is asked for
+abbrev pub IsTriedAt : Job → List NoGoodCut → List ℤ → Type 0
+IsTriedAt j made z = j.node < CUT_NODES → HasTried j.program j.area j.cuts made z
+
+-- what breaks a cut still does
+abbrev pub StayBroken : Job → List NoGoodCut → List NoGoodCut → Type 0
+StayBroken j old new = (z : List ℤ) → BreaksOne j.program j.area old z → BreaksOne j.program j.area new z
+
+-- an attempt at a cut at z: one is made, and z breaks it; or it was tried
+pub record IsAttempt (j : Job) (old new : List NoGoodCut) (z : List ℤ) (is_made : Bool) : Type 0 where
+  pub stay : StayBroken j old new
+  pub tried : IsTriedAt j new z
+  pub more : IsTrue is_made → (length new ≡ suc (length old)) × BreaksOne j.program j.area new z
+
+-- a point of the box that meets the rows and costs less than the cutoff
+pub record IsBelow (j : Job) (found : Option Incumbent) (z : List ℤ) : Type 0 where
+  pub inside : InArea j.area z
+  pub rows : MeetsRows j.program z
+  pub cost : CostsLess (cutoff_with j found) (cost_at j.program z)
 
 -- a value that a problem may have as a right side
 abbrev pub IsSmallValue : Option ℤ → Type 0

@@ -17,14 +17,16 @@ use Rattle.bl_leaf_terms.specs.Incumbents.{Incumbent, AreIncumbents, cutoff_of}
 use Rattle.bl_leaf_terms.specs.Nodes.{NodeLicence}
 use Rattle.bl_leaf_terms.specs.Leaves.{ClosedLeaf}
 use Rattle.bl_book_terms.specs.Books.{IsCurrent}
+use Rattle.bl_node.specs.NodeCuts.{AreMade, with_cuts, IsTried}
 use Rattle.bl_tree.specs.declared.task.Task.{Task}
 use Rattle.bl_node.specs.declared.nodes.Worked.{Worked}
 use Rattle.bl_node.specs.declared.nodes.Worked.TheVariants.{Close, Divide}
 use Rattle.bl_node.specs.declared.nodes.WorkFail.{WorkFail}
 use Rattle.bl_node.specs.declared.nodes.WorkFail.TheVariants.{FollowerSpent, Memory}
 
--- a task as values: the node's box, the best incumbent and the cuts that the node inherits
+-- a task as values: the node's number and box, the best incumbent and the cuts that the node inherits
 pub record Job : Type 0 where
+  pub node : ℕ
   pub program : Program
   pub area : Area
   pub best : Option Incumbent
@@ -32,6 +34,7 @@ pub record Job : Type 0 where
 
 abbrev pub job_of : Task → Job
 job_of t = record {
+  node = t.node;
   program = arc_value t.model;
   area = arc_value t.area;
   best = option_map arc_value t.best;
@@ -55,13 +58,16 @@ pub record IsClosing (j : Job) (leaf : ClosedLeaf) : Type 0 where
   pub area : leaf.area ≡ j.area
 
 -- the halves and the licence are of the job's box; the licence's cutoff is at most the job's best value, and isn't none
--- where the job has one; the halves inherit the job's cuts
+-- where the job has one; the halves inherit the job's cuts and those that were made
 pub record IsDividing (j : Job) (h : Halved) (licence : NodeLicence) (inherited : List NoGoodCut) : Type 0 where
   pub halves : h.area ≡ j.area
   pub program : licence.program ≡ j.program
   pub area : licence.area ≡ j.area
   pub current : IsCurrent (cutoff_of j.best) (cutoff_of licence.cutoff)
-  pub cuts : inherited ≡ j.cuts
+  pub made : List NoGoodCut
+  pub are_made : AreMade j.program j.area j.node made
+  pub cuts : inherited ≡ with_cuts j.cuts made
+  pub tried : IsTried j.program j.area j.node j.cuts made licence.why
 
 -- the link's values lie in the ranges of the box
 pub record IsLinkOfBox (p : Program) (a : Area) (l : List ℤ) : Type 0 where

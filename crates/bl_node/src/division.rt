@@ -5,9 +5,11 @@ ghost use Rattle.bl_terms.specs.Points.{IsOnePoint, IsWithinArea};
 ghost use Rattle.bl_terms.specs.Programs.{root};
 ghost use Rattle.bl_terms.specs.Trees.{CanSplit};
 ghost use Rattle.bl_leaf_terms.specs.Nodes.{IsLicensedBox};
+ghost use Rattle.bl_node.specs.NodeCuts.{IsTried};
 ghost use Rattle.bl_node.specs.Works.{IsSoundJob, job_of, IsWorked};
-ghost use Rattle.bl_node.specs.Standing.{IsFound, cutoff_with};
+ghost use Rattle.bl_node.specs.Standing.{IsFound, cutoff_with, AreNodeCuts};
 
+use crate::cuts::NodeCuts;
 use crate::found::share;
 use crate::nodes::Worked;
 use bl_licence::Why;
@@ -46,19 +48,23 @@ fn place_for(model: &Bilevel, area: &Box2, why: &Why) -> Place
     }
 }
 
-/// Divides the box with a licence for the cutoff of what is found. The halves inherit the task's cuts.
+/// Divides the box with a licence for the cutoff of what is found. The halves inherit its cuts.
 pub(crate) fn divide(
     alloc: Global,
     task: &Task,
     found: Option<Arc<Incumbent, Global>>,
     why: Why,
     kept: Option<Kept>,
+    cuts: NodeCuts,
 ) -> Result<Worked, AllocError>
     requires job { IsSoundJob (job_of task.now) }
     requires several { ¬ IsOnePoint (job_of task.now).area }
     requires found { IsFound (job_of task.now) (option_map arc_value found) }
     requires licence { IsLicensedBox (job_of task.now).program (job_of task.now).area
         (cutoff_with (job_of task.now) (option_map arc_value found)) kept why }
+    requires cuts { AreNodeCuts (job_of task.now) cuts.all cuts.made }
+    requires tried { IsTried (job_of task.now).program (job_of task.now).area (job_of task.now).node
+        (job_of task.now).cuts cuts.made why }
     ensures { IfOk result (IsWorked (job_of task.now)) }
 {
     let place = place_for(&task.model, &task.area, &why);
@@ -67,7 +73,7 @@ pub(crate) fn divide(
     let model = task.model.clone()?;
     let area = task.area.clone()?;
     let why = ProvedWhy::make(model, area, cutoff, kept, why);
-    let cuts = task.cuts.copy()?;
+    let cuts = cuts.all;
     Ok(Worked::Divide {
         halves,
         why,

@@ -8,9 +8,11 @@ ghost use Rattle.bl_source.specs.Sources.{KeepsEntries};
 ghost use Rattle.bl_node.specs.Works.{IsJob, IsSoundJob, job_of, IsWorked, IsWorkFailure};
 ghost use Rattle.bl_node.specs.declared.nodes.WorkFail.TheVariants.{Memory, FollowerSpent};
 
+use crate::cuts::NodeCuts;
 use crate::division::divide;
-use crate::leaves::{closed_plainly, closed_with_value, closed_without_answer};
-use crate::relaxation::{Relaxation, relax_fixed, relax_free};
+use crate::leaves::{closed_with_value, closed_without_answer};
+use crate::relaxation::{Relaxation, relax_fixed};
+use crate::rounds::{Round, cut_round};
 use bl_cut::Cuts;
 use bl_follower::{FollowerFail, Spent};
 use bl_model::Halves;
@@ -100,7 +102,10 @@ fn work_fixed<S: Source>(
             let leaf = closed_with_value(alloc, task, &found, proof, kept, value)?;
             Ok(Worked::Close { leaf, found })
         }
-        Relaxation::Stuck(why) => Ok(divide(alloc, task, found, why, Some(kept))?),
+        Relaxation::Stuck(why) => {
+            let cuts = NodeCuts::inherited(alloc, task)?;
+            Ok(divide(alloc, task, found, why, Some(kept), cuts)?)
+        }
     }
 }
 
@@ -119,12 +124,13 @@ fn work_free<S: Source>(
     ensures keeps { KeepsEntries (S.held pool.old) (S.held pool.new) }
 {
     let mut found = None;
-    match relax_free(alloc, task, pool, follower_nodes, &mut found)? {
-        Relaxation::Closed(proof) => {
-            let leaf = closed_plainly(alloc, task, &found, proof)?;
-            Ok(Worked::Close { leaf, found })
+    let mut cuts = NodeCuts::inherited(alloc, task)?;
+    'rounds: loop {
+        match cut_round(alloc, task, pool, follower_nodes, &mut found, &mut cuts)? {
+            Round::Closed(leaf) => return Ok(Worked::Close { leaf, found }),
+            Round::Stuck(why) => return Ok(divide(alloc, task, found, why, None, cuts)?),
+            Round::Fell => {}
         }
-        Relaxation::Stuck(why) => Ok(divide(alloc, task, found, why, None)?),
     }
 }
 

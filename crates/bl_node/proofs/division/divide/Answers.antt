@@ -13,8 +13,8 @@ make-why-requires c =
 pub returns : goal.returns
 returns c = (
   dividing (job_of c.args.task.now) (option_map arc_value c.args.found) c.in_ok-halves.halves c.make-why.result
-      c.in_ok-cuts.cuts _ _ _ _ _ _ _ _ c.requires.found c.in_ok-halves.ensures c.in_ok-clone.ensures.cases
-      c.make-why.ensures c.in_ok-model.ensures.cases c.in_ok-area.ensures.cases c.in_ok-cutoff.ensures
-      c.in_ok-cuts.ensures,
+      c.args.cuts.all _ _ _ _ _ _ _ _ c.args.cuts.made c.requires.found c.in_ok-halves.ensures
+      c.in_ok-clone.ensures.cases c.make-why.ensures c.in_ok-model.ensures.cases c.in_ok-area.ensures.cases
+      c.in_ok-cutoff.ensures c.requires.cuts c.requires.tried,
   c.requires.found.incumbent,
 )
