@@ -9,9 +9,9 @@ use std::sync::Wait;
 use std::test::Fail;
 use std::thread::Threads;
 use texts::{
-    ALONE, CHOICE, FIXED, FIXED_APART, GREATEST, HALF, INTERDICTION, INTERDICTION_AUX, MOORE_BARD,
-    MOORE_BARD_AUX, MOORE_BARD_SHOWN, OPEN, RAMP, RANGE, RANGE_SHOWN, TIES, TIES_AUX, TOLL,
-    TOLL_AUX, UNWILLING,
+    ALONE, CHOICE, CUT, FIXED, FIXED_APART, GREATEST, HALF, INTERDICTION, INTERDICTION_AUX,
+    MOORE_BARD, MOORE_BARD_AUX, MOORE_BARD_SHOWN, OPEN, RAMP, RANGE, RANGE_SHOWN, TIES, TIES_AUX,
+    TOLL, TOLL_AUX, UNWILLING, WIDE,
 };
 
 const NO_FOLLOWER: &str = "N 0\nM 0\nOS 1\n";
@@ -21,7 +21,7 @@ const NO_FOLLOWER: &str = "N 0\nM 0\nOS 1\n";
 /// points are optimal.
 type Case = (&'static str, &'static str, &'static str, &'static str);
 
-const ANSWERS: [Case; 18] = [
+const ANSWERS: [Case; 20] = [
     (
         "solve m.mps m.aux",
         MOORE_BARD,
@@ -119,6 +119,19 @@ const ANSWERS: [Case; 18] = [
         HALF,
         "N 1\nM 1\nLC 1\nLR 0\nLO 3\n",
         "0\noptimal\nvalue -1\nfollower 3\ncolumn X 1\ncolumn Y 1\n",
+    ),
+    (
+        "solve m.mps m.aux --nodes 1",
+        CUT,
+        "N 1\nM 1\nLC 1\nLR 0\nLO 1\n",
+        "0\noptimal\nvalue -1\nfollower 0\ncolumn X 1\ncolumn Y 0\n",
+    ),
+    (
+        "solve m.mps m.aux",
+        WIDE,
+        "N 1\nM 0\nLC 6\nLO 1\n",
+        "0\noptimal\nvalue 6\nfollower 0\ncolumn X1 1\ncolumn X2 1\ncolumn X3 1\ncolumn X4 1\n\
+         column X5 1\ncolumn X6 1\ncolumn Y 0\n",
     ),
     (
         "solve m.mps m.aux",

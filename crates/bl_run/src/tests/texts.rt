@@ -312,6 +312,52 @@ BOUNDS
 ENDATA
 ";
 
+/// X and Y up to 1, the leader's cost -X - 2Y and the follower's row Y <= X. At (1, 1) the follower has the better
+/// response 0; the cut Y <= 0, made there, closes the root.
+pub(super) const CUT: &str = "\
+NAME
+ROWS
+ N COST
+ L BELOW
+COLUMNS
+ M 'MARKER' 'INTORG'
+ X COST -1 BELOW -1
+ Y COST -2 BELOW 1
+ M 'MARKER' 'INTEND'
+BOUNDS
+ BV BND X
+ BV BND Y
+ENDATA
+";
+
+/// Six columns of the leader with large prime-like coefficients, each of which has to be 1, and one of the follower.
+pub(super) const WIDE: &str = "\
+NAME
+ROWS
+ N COST
+ G R1
+ G R2
+ G R3
+ G R4
+ G R5
+ G R6
+COLUMNS
+ M 'MARKER' 'INTORG'
+ X1 COST 1 R1 9999999
+ X2 COST 1 R2 9999998
+ X3 COST 1 R3 9999997
+ X4 COST 1 R4 9999995
+ X5 COST 1 R5 9999991
+ X6 COST 1 R6 9999989
+ Y COST 0
+ M 'MARKER' 'INTEND'
+RHS
+ RHS R1 1 R2 1
+ RHS R3 1 R4 1
+ RHS R5 1 R6 1
+ENDATA
+";
+
 /// X from 0 to the default upper bound, cost -X.
 pub(super) const OPEN: &str = "\
 ROWS
