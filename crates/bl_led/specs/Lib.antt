@@ -1,0 +1,1 @@
+-- No specification of its own: the contract is that of the exact relaxation.

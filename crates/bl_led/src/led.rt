@@ -1,0 +1,117 @@
+//! The relaxation: what a search in doubles finds and an exact test shows, else the exact relaxation.
+ghost use Rattle.std.specs.Prelude.{IfOk, IfSome};
+ghost use Rattle.bl_terms.specs.Bounds.{Fits};
+ghost use Rattle.bl_relax.specs.Relaxed.{IsRelaxed};
+
+use crate::closing::{cutoff_proof, empty_proof};
+use crate::fraction::simplest_licence;
+use crate::repair::Repair;
+use crate::rounding::whole_near;
+use bl_bound::Problem;
+use bl_float::{End, FloatSimplex};
+use bl_relax::{Relaxed, relax};
+use std::alloc::{AllocError, Global};
+use std::num::nearest_i64_to_f64;
+
+/// A problem with fewer numbers is relaxed exactly at once: its columns times its rows and columns.
+const SMALL: usize = 200;
+
+/// By how much a cost in doubles may be below the greatest one that is sought and yet reach the cutoff.
+const CUTOFF_TOLERANCE: f64 = 1e-6;
+
+/// What is kept from relaxation to relaxation: the float simplex, which goes on from its last dictionary where the rows
+/// and costs stay the same, and room. No answer depends on it but by which one is found.
+#[derive(Debug, Drop)]
+pub struct Scratch {
+    simplex: FloatSimplex,
+    point: Vec<i64>,
+    repair: Repair,
+}
+
+impl Scratch {
+    /// A scratch value that has seen no problem. Takes no memory.
+    pub fn new(alloc: Global) -> Scratch {
+        Scratch {
+            simplex: FloatSimplex::new(alloc),
+            point: Vec::new(alloc),
+            repair: Repair::new(alloc),
+        }
+    }
+}
+
+fn is_small(problem: &Problem<'_>) -> bool {
+    let columns = problem.lo().len();
+    let lines = problem.rows().len().saturating_add(columns);
+    columns.saturating_mul(lines) < SMALL
+}
+
+/// Whether a cost in doubles may reach the cutoff.
+fn reaches(cost: f64, cutoff: Option<i64>) -> bool {
+    match cutoff {
+        Some(cutoff) => { cost > nearest_i64_to_f64(cutoff.saturating_sub(1)) - CUTOFF_TOLERANCE }
+        None => false,
+    }
+}
+
+/// What an optimum in doubles leads to: a proof that the cutoff is reached, a whole point, or a licence to split.
+fn at_optimum(
+    alloc: Global,
+    problem: &Problem<'_>,
+    cutoff: Option<i64>,
+    scratch: &mut Scratch,
+) -> Result<Option<Relaxed>, AllocError>
+    requires { Fits problem.now }
+    ensures { IfOk result (λ o. IfSome o (IsRelaxed problem.now cutoff)) }
+{
+    if reaches(scratch.simplex.cost(), cutoff) {
+        let closed = cutoff_proof(alloc, problem, cutoff, scratch.simplex.multipliers())?;
+        if closed.is_some() {
+            return Ok(closed);
+        }
+    }
+    let values = scratch.simplex.point();
+    let room = &mut scratch.point;
+    let whole = whole_near(alloc, problem, cutoff, values, room, &mut scratch.repair)?;
+    if whole.is_some() {
+        return Ok(whole);
+    }
+    simplest_licence(alloc, problem, cutoff, values)
+}
+
+/// What the search in doubles finds and an exact test shows.
+fn led(
+    alloc: Global,
+    problem: &Problem<'_>,
+    cutoff: Option<i64>,
+    scratch: &mut Scratch,
+) -> Result<Option<Relaxed>, AllocError>
+    requires { Fits problem.now }
+    ensures { IfOk result (λ o. IfSome o (IsRelaxed problem.now cutoff)) }
+{
+    match scratch.simplex.solve(problem, cutoff)? {
+        End::Infeasible => empty_proof(alloc, problem, cutoff, scratch.simplex.multipliers()),
+        End::AboveCutoff => cutoff_proof(alloc, problem, cutoff, scratch.simplex.multipliers()),
+        End::Optimal => at_optimum(alloc, problem, cutoff, scratch),
+        End::Tired | End::Broken => Ok(None),
+    }
+}
+
+/// Relaxes the problem as [`relax`] does, led by floating point: a proof that closes the box, a whole point of it below
+/// the cutoff, or a licence to split it. The scratch value may have served any problems before.
+pub fn relax_led(
+    alloc: Global,
+    problem: &Problem<'_>,
+    cutoff: Option<i64>,
+    scratch: &mut Scratch,
+) -> Result<Relaxed, AllocError>
+    requires { Fits problem.now }
+    ensures { IfOk result (IsRelaxed problem.now cutoff) }
+{
+    if is_small(problem) {
+        return relax(alloc, problem, cutoff);
+    }
+    match led(alloc, problem, cutoff, scratch)? {
+        Some(answer) => Ok(answer),
+        None => relax(alloc, problem, cutoff),
+    }
+}

@@ -1,0 +1,2 @@
+//! Worked problems.
+use super::*;
