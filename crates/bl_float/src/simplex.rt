@@ -84,8 +84,8 @@ struct Engine {
 
 impl Engine {
     /// Makes the dictionary one of the problem: the last one where only the box and the right sides differ, else the
-    /// opening one.
-    fn load(&mut self, problem: &Problem<'_>) -> Result<(), AllocError> {
+    /// opening one. Rows that aren't equations are tightened by half a unit times the sum of their magnitudes.
+    fn load(&mut self, problem: &Problem<'_>, unit: f64) -> Result<(), AllocError> {
         if !self.is_open || !self.source.is_of(problem) {
             self.is_open = false;
             self.source.read(problem)?;
@@ -93,6 +93,9 @@ impl Engine {
             self.is_open = true;
         }
         self.source.read_ranges(problem)?;
+        if unit > 0.0 {
+            self.source.tighten(problem, unit)?;
+        }
         self.source.stand(&mut self.dictionary);
         Ok(())
     }
@@ -244,11 +247,25 @@ impl FloatSimplex {
         ensures { OnOk result
             (self.new ≡ record { rows = length problem.now.rows; columns = length problem.now.area.lo }) }
     {
+        self.solve_inside(problem, cutoff, 0.0)
+    }
+
+    /// The same where each row but those of equations is tightened by half a unit times the sum of its coefficients'
+    /// magnitudes: then a point that meets the rows may be rounded to multiples of the unit, and still does.
+    pub fn solve_inside(
+        &mut self,
+        problem: &Problem<'_>,
+        cutoff: Option<i64>,
+        unit: f64,
+    ) -> Result<End, AllocError>
+        ensures { OnOk result
+            (self.new ≡ record { rows = length problem.now.rows; columns = length problem.now.area.lo }) }
+    {
         let rows = problem.rows().len();
         let columns = problem.lo().len();
         set_zeros(&mut self.point, columns)?;
         set_zeros(&mut self.multipliers, rows)?;
-        self.engine.load(problem)?;
+        self.engine.load(problem, unit)?;
         let stop = self
             .engine
             .run(limit_of(cutoff), most_pivots(rows, columns))?;

@@ -42,6 +42,10 @@ pub(crate) struct Source {
     costs: Vec<i64>,
     /// For each row the power of 2 that its activity is multiplied by.
     pub(crate) scales: Vec<f64>,
+    /// For each row the sum of its coefficients' magnitudes, once it is asked for.
+    lengths: Vec<f64>,
+    /// For each row another one with the opposite coefficients, or the count of rows; once it is asked for.
+    opposites: Vec<usize>,
     /// By label: the columns' ranges, then those of the activities.
     pub(crate) ranges: Vec<Range>,
     /// By label: whether the variable is to be basic in a dictionary that is restored.
@@ -63,6 +67,35 @@ fn scale_of(coefs: &[i64]) -> f64 {
         scale *= 0.5;
     }
     scale
+}
+
+/// The sum of the numbers' magnitudes.
+fn sum_of_magnitudes(numbers: &[i64]) -> f64 {
+    let mut sum = 0.0;
+    for x in numbers {
+        sum += nearest_i64_to_f64(*x).abs();
+    }
+    sum
+}
+
+/// Whether each number is the negation of the one at its place.
+fn are_opposite(numbers: &[i64], others: &[i64]) -> bool {
+    for (x, y) in numbers.iter().zip(others.iter()) {
+        if x.checked_add(*y) != Some(0) {
+            return false;
+        }
+    }
+    true
+}
+
+/// The first row with the opposite coefficients, or the count of rows.
+fn opposite_of(problem: &Problem<'_>, coefs: &[i64]) -> usize {
+    for (i, row) in problem.rows().iter().enumerate() {
+        if are_opposite(row.coef(), coefs) {
+            return i;
+        }
+    }
+    problem.rows().len()
 }
 
 /// The range of a label.
@@ -103,6 +136,8 @@ impl Source {
             coefs: Vec::new(alloc),
             costs: Vec::new(alloc),
             scales: Vec::new(alloc),
+            lengths: Vec::new(alloc),
+            opposites: Vec::new(alloc),
             ranges: Vec::new(alloc),
             kept: Vec::new(alloc),
         }
@@ -128,6 +163,8 @@ impl Source {
         self.costs.extend_from_slice(problem.cost())?;
         self.coefs.clear();
         self.scales.clear();
+        self.lengths.clear();
+        self.opposites.clear();
         for row in problem.rows() {
             self.coefs.extend_from_slice(row.coef())?;
             self.scales.push(scale_of(row.coef()))?;
@@ -149,6 +186,41 @@ impl Source {
                 low: f64::NEG_INFINITY,
                 high: nearest_i64_to_f64(row.rhs()) * *scale,
             })?;
+        }
+        Ok(())
+    }
+
+    /// Lowers the upper end of each activity, but for those of equations, by half a unit times the sum of the row's
+    /// magnitudes.
+    pub(crate) fn tighten(&mut self, problem: &Problem<'_>, unit: f64) -> Result<(), AllocError> {
+        if self.lengths.len() != self.scales.len() {
+            self.measure_rows(problem)?;
+        }
+        let columns = self.costs.len();
+        let rows = problem.rows();
+        for (i, row) in rows.iter().enumerate() {
+            let opposite = self.opposites.get(i).copied().unwrap_or(rows.len());
+            let is_equation = match rows.get(opposite) {
+                Some(other) => row.rhs().checked_add(other.rhs()) == Some(0),
+                None => false,
+            };
+            if !is_equation {
+                let margin = 0.5 * unit * at(&self.lengths, i) * at(&self.scales, i);
+                if let Some(range) = self.ranges.get_mut(columns.saturating_add(i)) {
+                    range.high -= margin;
+                }
+            }
+        }
+        Ok(())
+    }
+
+    /// Computes the sum of each row's magnitudes, and finds its opposite.
+    fn measure_rows(&mut self, problem: &Problem<'_>) -> Result<(), AllocError> {
+        self.lengths.clear();
+        self.opposites.clear();
+        for row in problem.rows() {
+            self.lengths.push(sum_of_magnitudes(row.coef()))?;
+            self.opposites.push(opposite_of(problem, row.coef()))?;
         }
         Ok(())
     }

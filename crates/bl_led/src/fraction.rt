@@ -20,6 +20,14 @@ const MAX_DENOMINATOR: f64 = 16_777_216.0;
 /// The most steps of a continued fraction.
 const MAX_STEPS: u32 = 40;
 
+/// The multiples of a power of 1/2.
+#[derive(Clone, Copy, Debug)]
+pub(crate) struct Grid {
+    pub(crate) halvings: u32,
+    /// How many parts 1 has: 2 to the halvings.
+    pub(crate) parts: f64,
+}
+
 /// A ratio of whole numbers in doubles.
 #[derive(Clone, Copy, Debug)]
 struct Ratio {
@@ -63,6 +71,22 @@ fn simplest_fraction(number: f64) -> Option<Frac> {
     reduced(i128::from(num), i128::from(den))
 }
 
+/// The fraction of a grid that is nearest to a number that isn't below 0.
+fn fraction_on(number: f64, grid: Grid) -> Option<Frac> {
+    let count = saturating_f64_to_i64(number * grid.parts + 0.5);
+    let halved = count.trailing_zeros().min(grid.halvings);
+    let num = count.checked_shr(halved)?;
+    let den = 1i64.checked_shl(grid.halvings.saturating_sub(halved))?;
+    reduced(i128::from(num), i128::from(den))
+}
+
+/// Which fractions stand for numbers.
+#[derive(Clone, Copy, Debug)]
+enum Form {
+    Simplest,
+    On(Grid),
+}
+
 /// How far a column is from its start, the end of its range at which it costs least.
 fn distance_from_start(cost: i64, lo: i64, hi: i64, column: f64) -> f64 {
     let distance = if cost < 0 {
@@ -73,11 +97,12 @@ fn distance_from_start(cost: i64, lo: i64, hi: i64, column: f64) -> f64 {
     distance.max(0.0)
 }
 
-/// The distances of the columns from their starts as the simplest fractions near them, if each has one.
-fn simplest_distances(
+/// The distances of the columns from their starts as fractions near them, if each has one.
+fn fractions_of(
     alloc: Global,
     problem: &Problem<'_>,
     point: &[f64],
+    form: Form,
 ) -> Result<Option<Vec<Frac>>, AllocError> {
     let mut distances = Vec::with_capacity(alloc, point.len())?;
     for (((cost, lo), hi), column) in problem
@@ -88,7 +113,11 @@ fn simplest_distances(
         .zip(point.iter())
     {
         let distance = distance_from_start(*cost, *lo, *hi, *column);
-        let Some(fraction) = simplest_fraction(distance) else {
+        let fraction = match form {
+            Form::Simplest => simplest_fraction(distance),
+            Form::On(grid) => fraction_on(distance, grid),
+        };
+        let Some(fraction) = fraction else {
             return Ok(None);
         };
         distances.push(fraction)?;
@@ -123,7 +152,24 @@ pub(crate) fn simplest_licence(
     requires { Fits problem.now }
     ensures { IfOk result (λ o. IfSome o (IsRelaxed problem.now cutoff)) }
 {
-    let Some(distances) = simplest_distances(alloc, problem, point)? else {
+    let Some(distances) = fractions_of(alloc, problem, point, Form::Simplest)? else {
+        return Ok(None);
+    };
+    shown_licence(alloc, problem, cutoff, distances)
+}
+
+/// The licence of a point, rounded to a grid, if it holds.
+pub(crate) fn licence_on(
+    alloc: Global,
+    problem: &Problem<'_>,
+    cutoff: Option<i64>,
+    point: &[f64],
+    grid: Grid,
+) -> Result<Option<Relaxed>, AllocError>
+    requires { Fits problem.now }
+    ensures { IfOk result (λ o. IfSome o (IsRelaxed problem.now cutoff)) }
+{
+    let Some(distances) = fractions_of(alloc, problem, point, Form::On(grid))? else {
         return Ok(None);
     };
     shown_licence(alloc, problem, cutoff, distances)

@@ -4,7 +4,7 @@ ghost use Rattle.bl_terms.specs.Bounds.{Fits};
 ghost use Rattle.bl_relax.specs.Relaxed.{IsRelaxed};
 
 use crate::closing::{cutoff_proof, empty_proof};
-use crate::fraction::simplest_licence;
+use crate::fraction::{Grid, licence_on, simplest_licence};
 use crate::repair::Repair;
 use crate::rounding::whole_near;
 use bl_bound::Problem;
@@ -18,6 +18,22 @@ const SMALL: usize = 200;
 
 /// By how much a cost in doubles may be below the greatest one that is sought and yet reach the cutoff.
 const CUTOFF_TOLERANCE: f64 = 1e-6;
+
+/// The grids to which a point is rounded whose fractions aren't simple, coarsest first.
+const GRIDS: [Grid; 3] = [
+    Grid {
+        halvings: 20,
+        parts: 1_048_576.0,
+    },
+    Grid {
+        halvings: 30,
+        parts: 1_073_741_824.0,
+    },
+    Grid {
+        halvings: 40,
+        parts: 1_099_511_627_776.0,
+    },
+];
 
 /// What is kept from relaxation to relaxation: the float simplex, which goes on from its last dictionary where the rows
 /// and costs stay the same, and room. No answer depends on it but by which one is found.
@@ -75,7 +91,36 @@ fn at_optimum(
     if whole.is_some() {
         return Ok(whole);
     }
-    simplest_licence(alloc, problem, cutoff, values)
+    let stuck = simplest_licence(alloc, problem, cutoff, values)?;
+    if stuck.is_some() {
+        return Ok(stuck);
+    }
+    grid_licence(alloc, problem, cutoff, scratch)
+}
+
+/// A licence to split of a point on a grid: that of least cost so far within the rows that rounding leaves them met.
+fn grid_licence(
+    alloc: Global,
+    problem: &Problem<'_>,
+    cutoff: Option<i64>,
+    scratch: &mut Scratch,
+) -> Result<Option<Relaxed>, AllocError>
+    requires { Fits problem.now }
+    ensures { IfOk result (λ o. IfSome o (IsRelaxed problem.now cutoff)) }
+{
+    for grid in GRIDS {
+        let end = scratch
+            .simplex
+            .solve_inside(problem, cutoff, 1.0 / grid.parts)?;
+        if end == End::Optimal {
+            let values = scratch.simplex.point();
+            let stuck = licence_on(alloc, problem, cutoff, values, grid)?;
+            if stuck.is_some() {
+                return Ok(stuck);
+            }
+        }
+    }
+    Ok(None)
 }
 
 /// What the search in doubles finds and an exact test shows.
