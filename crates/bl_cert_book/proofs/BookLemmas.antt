@@ -28,12 +28,14 @@ use Rattle.bl_cert_book.specs.Leaves.{PlacedTree, placed_tree}
 use Rattle.bl_cert_book.specs.BookCertificates.{book_tree, stated_by, certificate_with, FinishedBookIsAccepted}
 use Rattle.bl_cert_book.proofs.EntryLemmas.{IsAnswerOf, HasLink, all_entries, rising_entries, links_there, says_best}
 use Rattle.bl_cert_book.proofs.CutLemmas.{extends_itself}
-use Rattle.bl_cert_book.proofs.TreeLemmas.{IsBookLeaf, tree_covers, tree_answers, tree_placed, option_map_some, all_left, all_right}
+use Rattle.bl_cert_book.proofs.TreeLemmas.{IsBookLeaf, tree_covers, tree_answers, tree_placed, option_map_some}
+use Rattle.bl_cert_book.proofs.TreeLemmas.{all_left, all_right}
 
 -- ---- the best incumbent
 
 -- the entry of an incumbent is an answer of the program
-best_answers : (p : Program) (best : Option Incumbent) → AreIncumbents p best → All (IsAnswerOf p) (entries_of_best best)
+best_answers : (p : Program) (best : Option Incumbent) → AreIncumbents p best
+    → All (IsAnswerOf p) (entries_of_best best)
 best_answers p None are = All-nil (IsAnswerOf p)
 best_answers p (Some f) are =
     All-cons (IsAnswerOf p) f.entry [] (are.1.entry.admitted, are.1.entry.program ∙ are.0) (All-nil (IsAnswerOf p))
@@ -72,7 +74,8 @@ best_point : (p : Program) (best : Option Incumbent) (entries : List ProvedEntry
     → HasShownPoint p entries (stated_by p best)
 best_point p None entries m are proved links = tt
 best_point p (Some f) entries m are proved links =
-    let feasible : BilevelFeasible p f.point = subst (λ (q : Program). BilevelFeasible q f.point) are.0 are.1.feasible in
+    let feasible : BilevelFeasible p f.point =
+    subst (λ (q : Program). BilevelFeasible q f.point) are.0 are.1.feasible in
     let for : IsEntryFor p (link_of p f.point) f.entry =
     subst (λ (q : Program). IsEntryFor q (link_of q f.point) f.entry) are.0 are.1.entry in
     shown_point p entries f m proved feasible for (links 0 f.entry (omega arith))
@@ -109,13 +112,15 @@ first_after b (Split w k halves licence cuts) a h =
     ∷ ready_node (high_half halves.area halves.column halves.at) cuts ∷ []) a
     (first_with_status b.nodes a k (Divided halves licence (length b.nodes)) h)
 
-first_led : (b b' : Book) (events : List Event) (a : Area) → HasFirst b.nodes a → Leads b events b' → HasFirst b'.nodes a
+first_led : (b b' : Book) (events : List Event) (a : Area) → HasFirst b.nodes a → Leads b events b'
+    → HasFirst b'.nodes a
 first_led b b' [] a h leads = subst (λ (x : Book). HasFirst x.nodes a) leads h
 first_led b b' (e ∷ events) a h leads = first_led (after b e) b' events a (first_after b e a h) leads.1
 
 -- ---- the whole
 
-accepted : (b : Book) (t : PlacedTree) → IsModel b.program → IsSound b → IsFinished b → HasFirst b.nodes (root b.program)
+accepted : (b : Book) (t : PlacedTree) → IsModel b.program → IsSound b → IsFinished b
+    → HasFirst b.nodes (root b.program)
     → placed_tree (length b.program.rows + 1) [] (book_tree b) ≡ Some t → IsAccepted b.program (certificate_with b t)
 accepted b t m sound finished first e =
     let tree = book_tree b in

@@ -6,7 +6,8 @@ use Rattle.std.specs.List.{zip}
 use Rattle.std.specs.List.Sorted.{IsStrictlyIncreasing}
 use Rattle.std.proofs.lemmas.Option.{option_and_then_some}
 use Rattle.std.proofs.lemmas.Bool.Decides.{nat_tests}
-use Rattle.std.proofs.lemmas.List.{length-append, length-map, length-take-le, length-drop, take-append-drop, append_assoc}
+use Rattle.std.proofs.lemmas.List.{length-append, length-map, length-take-le, length-drop, take-append-drop}
+use Rattle.std.proofs.lemmas.List.{append_assoc}
 use Rattle.std.proofs.lemmas.List.{get_or_append_left}
 use Rattle.std.proofs.lemmas.List.Elements.{All-append, All-take, All-drop, All-map, All-nil, All-cons}
 use Rattle.std.proofs.lemmas.List.Elements.{All-head, All-tail}
@@ -29,7 +30,8 @@ use Rattle.bl_cert_terms.specs.Certificates as certificates
 use Rattle.bl_cert_terms.specs.Certificates.{ProvedEntry, Bounded, NoAnswer, Certificate, IsProvedEntry, IsCited}
 use Rattle.bl_cert_terms.specs.Certificates.{UsesValue, Closes, stated_cutoff}
 use Rattle.bl_cert_book.specs.Entries.{entries_of_leaf}
-use Rattle.bl_cert_book.specs.Leaves.{adopt_all, by_place, are_rising, cited_pairs, with_pairs, PlacedLeaf, bounded_leaf}
+use Rattle.bl_cert_book.specs.Leaves.{adopt_all, by_place, are_rising, cited_pairs, with_pairs, PlacedLeaf}
+use Rattle.bl_cert_book.specs.Leaves.{bounded_leaf}
 use Rattle.bl_cert_book.specs.Leaves.{placed_leaf}
 use Rattle.bl_cert_book.proofs.Weights.{weighted, weighted-append, places_of, multipliers_of, pair_sum}
 use Rattle.bl_cert_book.proofs.Weights.{pair_sum-by_place, all-by_place, length-by_place, IsMultiplier, each_multiplier}
@@ -52,7 +54,8 @@ rising_from_test (i ∷ j ∷ places) e (suc k) b =
 
 -- ---- the pairs of a leaf
 
-all_of_map : {X : Type 0} (f : ℕ × ℤ → X) (P : X → Type 0) (xs : List (ℕ × ℤ)) → All P (map f xs) → All (λ x. P (f x)) xs
+all_of_map : {X : Type 0} (f : ℕ × ℤ → X) (P : X → Type 0) (xs : List (ℕ × ℤ)) → All P (map f xs)
+    → All (λ x. P (f x)) xs
 all_of_map f P [] each = All-nil (λ x. P (f x))
 all_of_map f P (x ∷ xs) each =
     All-cons (λ y. P (f y)) x xs (All-head P (f x) (map f xs) each)
@@ -192,7 +195,8 @@ uses_value p a w pairs entries cuts (Some e) (Some v) m proved links b has = (
 
 -- what a leaf needs of a certificate: its cuts go on from the list, its entries are proved and have the links of the
 -- leaf, and its cutoff is no higher
-pub record IsAround (p : Program) (u : Option ℤ) (steps : List CutStep) (used : List Admitted) (c : Certificate) : Type 0
+pub record IsAround (p : Program) (u : Option ℤ) (steps : List CutStep) (used : List Admitted) (c : Certificate)
+    : Type 0
   where
     pub extends : Extends steps c.cuts
     pub proved : All (IsProvedEntry p) c.entries
@@ -212,8 +216,8 @@ bounded_closes p a u w cuts entry d c m h old test around =
     let row : ℕ → Linear = λ k. (step_at c.cuts k).row in
     let stand = stand_later d.steps c.cuts cuts places around.extends old in
     let proof : Proves (leaf_problem p a h.value (map row places)) u w =
-    subst (λ (rows : List Linear). Proves (leaf_problem p a h.value rows) u w) (sym (stand_rows c.cuts cuts places stand))
-    h.proof in
+    subst (λ (rows : List Linear). Proves (leaf_problem p a h.value rows) u w)
+    (sym (stand_rows c.cuts cuts places stand)) h.proof in
     let all = multiplier_count p a h.value u w (map row places) proof in
     let count : length (drop n w.mult) ≡ length places =
     cut_multiplier_count p a h.value u w (map row places) proof ∙ length-map places row in
