@@ -71,13 +71,13 @@ pair_sum-cons h row x pairs =
 pair_sum-put : (h : Linear → ℤ) (row : ℕ → Linear) (x : ℕ × ℤ) (pairs : List (ℕ × ℤ))
     → pair_sum h row (put_by_place x pairs) ≡ x.1 *ℤ h (row x.0) +ℤ pair_sum h row pairs
 pair_sum-put h row x [] = pair_sum-cons h row x []
-pair_sum-put h row x (y ∷ pairs) = by (nat_lt x.0 y.0) (pair_sum-put h row x pairs)
+pair_sum-put h row x (y ∷ pairs) = by (nat_lt y.0 x.0) (pair_sum-put h row x pairs)
   where
     by : (t : Bool) → pair_sum h row (put_by_place x pairs) ≡ x.1 *ℤ h (row x.0) +ℤ pair_sum h row pairs
-        → pair_sum h row (cond t (x ∷ y ∷ pairs) (y ∷ put_by_place x pairs))
+        → pair_sum h row (cond t (y ∷ put_by_place x pairs) (x ∷ y ∷ pairs))
         ≡ x.1 *ℤ h (row x.0) +ℤ pair_sum h row (y ∷ pairs)
-    by true rest = pair_sum-cons h row x (y ∷ pairs)
-    by false rest =
+    by false rest = pair_sum-cons h row x (y ∷ pairs)
+    by true rest =
         let more = pair_sum-cons h row y (put_by_place x pairs) in
         let same = pair_sum-cons h row y pairs in
         omega (arith, ints)
@@ -96,11 +96,11 @@ pair_sum-by_place h row (x ∷ pairs) =
 all-put : (P : ℕ × ℤ → Type 0) (x : ℕ × ℤ) (pairs : List (ℕ × ℤ)) → P x → All P pairs → All P (put_by_place x pairs)
 all-put P x [] here each = All-cons P x [] here each
 all-put P x (y ∷ pairs) here each =
-    by (nat_lt x.0 y.0) (all-put P x pairs here (All-tail P y pairs each))
+    by (nat_lt y.0 x.0) (all-put P x pairs here (All-tail P y pairs each))
   where
-    by : (t : Bool) → All P (put_by_place x pairs) → All P (cond t (x ∷ y ∷ pairs) (y ∷ put_by_place x pairs))
-    by true rest = All-cons P x (y ∷ pairs) here each
-    by false rest = All-cons P y (put_by_place x pairs) (All-head P y pairs each) rest
+    by : (t : Bool) → All P (put_by_place x pairs) → All P (cond t (y ∷ put_by_place x pairs) (x ∷ y ∷ pairs))
+    by false rest = All-cons P x (y ∷ pairs) here each
+    by true rest = All-cons P y (put_by_place x pairs) (All-head P y pairs each) rest
 
 pub all-by_place : (P : ℕ × ℤ → Type 0) (pairs : List (ℕ × ℤ)) → All P pairs → All P (by_place pairs)
 all-by_place P [] each = each
@@ -109,12 +109,12 @@ all-by_place P (x ∷ pairs) each =
 
 length-put : (x : ℕ × ℤ) (pairs : List (ℕ × ℤ)) → length (put_by_place x pairs) ≡ suc (length pairs)
 length-put x [] = refl
-length-put x (y ∷ pairs) = by (nat_lt x.0 y.0) (length-put x pairs)
+length-put x (y ∷ pairs) = by (nat_lt y.0 x.0) (length-put x pairs)
   where
     by : (t : Bool) → length (put_by_place x pairs) ≡ suc (length pairs)
-        → length (cond t (x ∷ y ∷ pairs) (y ∷ put_by_place x pairs)) ≡ suc (suc (length pairs))
-    by true rest = refl
-    by false rest = ap suc rest
+        → length (cond t (y ∷ put_by_place x pairs) (x ∷ y ∷ pairs)) ≡ suc (suc (length pairs))
+    by false rest = refl
+    by true rest = ap suc rest
 
 pub length-by_place : (pairs : List (ℕ × ℤ)) → length (by_place pairs) ≡ length pairs
 length-by_place [] = refl

@@ -18,7 +18,7 @@ adopt_all a (c ∷ cuts) = option_and_then (λ b. adopt_all b cuts) (adopt_cut a
 -- the pairs in the order of their places
 abbrev pub put_by_place : ℕ × ℤ → List (ℕ × ℤ) → List (ℕ × ℤ)
 put_by_place x [] = x ∷ []
-put_by_place x (y ∷ pairs) = if nat_lt x.0 y.0 then x ∷ y ∷ pairs else y ∷ put_by_place x pairs
+put_by_place x (y ∷ pairs) = if nat_lt y.0 x.0 then y ∷ put_by_place x pairs else x ∷ y ∷ pairs
 
 abbrev pub by_place : List (ℕ × ℤ) → List (ℕ × ℤ)
 by_place [] = []
