@@ -129,7 +129,7 @@ pub record AreTaken (p : Program) (a : Adopted) (cuts : List NoGoodCut) (b : Ado
   pub noted : b.places ≡ a.places ++ further
   pub stand : StandAt b.steps cuts further
 
-some_length : (steps : List CutStep) → (steps ≡ [] → ⊥) → 0 < length steps
+pub some_length : (steps : List CutStep) → (steps ≡ [] → ⊥) → 0 < length steps
 some_length [] some = absurd (some refl)
 some_length (s ∷ steps) some = omega arith
 

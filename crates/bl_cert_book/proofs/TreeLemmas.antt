@@ -95,7 +95,7 @@ leaf_answers p a u (leaves.NoAnswer e) h =
     All-cons (IsAnswerOf p) e [] (h.entry.admitted, h.entry.program) (All-nil (IsAnswerOf p))
 
 -- the evidence of a leaf of the book shows its box closed
-shown_leaf : (b : Book) (a : Area) (leaf : ClosedLeaf) → IsBookLeaf b a leaf
+pub shown_leaf : (b : Book) (a : Area) (leaf : ClosedLeaf) → IsBookLeaf b a leaf
     → IsShownClosed b.program a (cutoff_of leaf.cutoff) leaf.evidence
 shown_leaf b a leaf h =
     let of_program : IsShownClosed b.program leaf.area (cutoff_of leaf.cutoff) leaf.evidence =

@@ -1,5 +1,7 @@
 -- Trusted. The certificate of a finished book, and that it is accepted.
-use Rattle.std.specs.Prelude.{ℕ, zero, suc, ◌≡◌, ◌+◌, ◌≤◌, List, [], ◌∷◌, ◌++◌, length, Option, Some, None, option_map}
+use Rattle.std.specs.Prelude.{ℕ, zero, suc, ◌≡◌, ◌+◌, ◌<◌, ◌≤◌, List, [], ◌∷◌, ◌++◌, length, Option, Some, None}
+use Rattle.std.specs.Prelude.{option_map}
+use Rattle.std.specs.Prelude.{IsSome}
 use Rattle.bl_terms.specs.Programs.{Program, value_at}
 use Rattle.bl_terms.specs.Trees.{BareNode, Leaf, Split}
 use Rattle.bl_model.specs.View.{IsModel}
@@ -11,7 +13,7 @@ use Rattle.bl_cert_terms.specs.declared.stated.Statement.{Statement}
 use Rattle.bl_cert_terms.specs.declared.stated.Statement.TheVariants.{Optimal, Infeasible}
 use Rattle.bl_cert_terms.specs.Certificates.{Certificate, IsAccepted}
 use Rattle.bl_cert_book.specs.Entries.{entries_of_best, entries_of_tree, with_entries}
-use Rattle.bl_cert_book.specs.Leaves.{PlacedTree, placed_tree}
+use Rattle.bl_cert_book.specs.Leaves.{placed_leaf, PlacedTree, placed_tree}
 
 -- what a node stands for in the tree, by what the nodes stand for that are its halves, the lower half first. A node
 -- that is still to be worked on stands for nothing
@@ -47,8 +49,22 @@ certificate_with b t = record {
 abbrev pub certificate_of : Book → Option Certificate
 certificate_of b = option_map (certificate_with b) (placed_tree (length b.program.rows + 1) [] (book_tree b))
 
--- THE LAW: the certificate of a finished run is accepted
+-- each leaf of the book alone can be written down: it cites no two cuts that are one, and no cut of it uses two such
+abbrev pub LeavesStandAlone : Book → Type 0
+LeavesStandAlone b =
+    (k : ℕ) (leaf : ClosedLeaf) → k < length b.nodes → (node_at b.nodes k).status ≡ Closed leaf
+    → IsSome (placed_leaf (length b.program.rows + 1) [] leaf.evidence)
+
+-- THE LAWS
+
+-- the certificate of a finished run is accepted
 abbrev pub FinishedBookIsAccepted : Type 0
 FinishedBookIsAccepted =
     (l : Ledger) (c : Certificate) → IsModel l.book.program → 1 ≤ l.book.limit → IsRun l → IsFinished l.book
     → certificate_of l.book ≡ Some c → IsAccepted l.book.program c
+
+-- and there is one where each leaf alone can be written down
+abbrev pub FinishedBookHasCertificate : Type 0
+FinishedBookHasCertificate =
+    (l : Ledger) → IsModel l.book.program → 1 ≤ l.book.limit → IsRun l → IsFinished l.book → LeavesStandAlone l.book
+    → IsSome (certificate_of l.book)
