@@ -234,7 +234,7 @@ pub record IsTakenAlike (p : Program) (b : Adopted) (places : List ℕ) (o : Opt
   pub longer : IsLonger places more
   pub is : o ≡ Some (record { steps = further; places = all_at more b.places })
 
-follow_adopt : (p : Program) (steps : List CutStep) (rows : List LocalRow) (a b : Adopted) (new : List CutStep)
+pub follow_adopt : (p : Program) (steps : List CutStep) (rows : List LocalRow) (a b : Adopted) (new : List CutStep)
     (places : List ℕ) → AreCutSteps p rows steps → IsAdopted p rows a → Follows p a.steps new places
     → adopt a steps ≡ Some b
     → IsTakenAlike p b places (adopt (record { steps = new; places = all_at places a.places }) steps)

@@ -8,4 +8,5 @@ pub mod Followings
 pub mod PlacedLeaves
 pub mod TreeLemmas
 pub mod PlacedTrees
+pub mod AloneLemmas
 pub mod BookLemmas

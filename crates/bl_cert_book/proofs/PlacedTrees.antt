@@ -70,7 +70,7 @@ apart_of_sorted (x ∷ xs) apart =
     let r = apart_put nat_lt x (by_place xs) (subst (AreApart itself) (put_same x (by_place xs)) apart) in
     (other_of_sorted x.0 xs r.0, apart_of_sorted xs r.1)
 
-rising_sorted : (xs : List (ℕ × ℤ)) → AreApart itself xs → IsRising nat_lt (by_place xs)
+pub rising_sorted : (xs : List (ℕ × ℤ)) → AreApart itself xs → IsRising nat_lt (by_place xs)
 rising_sorted [] apart = tt
 rising_sorted (x ∷ xs) apart =
     subst (IsRising nat_lt) (sym (put_same x (by_place xs)))
@@ -82,7 +82,7 @@ rising_of_test (x ∷ []) e = tt
 rising_of_test (x ∷ y ∷ xs) e =
     let h = and_true (nat_lt x.0 y.0) (are_rising (places_of (y ∷ xs))) e in (h.0, rising_of_test (y ∷ xs) h.1)
 
-test_of_rising : (xs : List (ℕ × ℤ)) → IsRising nat_lt xs → are_rising (places_of xs) ≡ true
+pub test_of_rising : (xs : List (ℕ × ℤ)) → IsRising nat_lt xs → are_rising (places_of xs) ≡ true
 test_of_rising [] rising = refl
 test_of_rising (x ∷ []) rising = refl
 test_of_rising (x ∷ y ∷ xs) rising =
@@ -134,7 +134,7 @@ rising_test c w uses b x e = by (are_rising (places_of (cited_pairs c w b.places
     by true test h = test
     by false test h = absurd cc
 
-abbrev leaf_with : ℕ → Multipliers → Bool → Adopted → PlacedLeaf
+abbrev pub leaf_with : ℕ → Multipliers → Bool → Adopted → PlacedLeaf
 leaf_with c w uses b = record {
   steps = b.steps;
   leaf = Bounded (with_pairs c w (cited_pairs c w b.places)) uses (places_of (cited_pairs c w b.places));

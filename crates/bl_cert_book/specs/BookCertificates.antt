@@ -1,12 +1,17 @@
 -- Trusted. The certificate of a finished book, and that it is accepted.
 use Rattle.std.specs.Prelude.{ℕ, zero, suc, ◌≡◌, ◌+◌, ◌<◌, ◌≤◌, List, [], ◌∷◌, ◌++◌, length, Option, Some, None}
 use Rattle.std.specs.Prelude.{option_map}
-use Rattle.std.specs.Prelude.{IsSome}
+use Rattle.std.specs.Prelude.{IsSome, ℤ, ◌≢◌, All, AllPairs}
+use Rattle.bl_terms.specs.Points.{Area}
 use Rattle.bl_terms.specs.Programs.{Program, value_at}
+use Rattle.bl_terms.specs.Bounds.{Multipliers}
 use Rattle.bl_terms.specs.Trees.{BareNode, Leaf, Split}
 use Rattle.bl_model.specs.View.{IsModel}
+use Rattle.bl_fproof.specs.Entries.{Admitted}
+use Rattle.bl_cut_terms.specs.NoGoods.{NoGoodCut, cut_of}
 use Rattle.bl_leaf_terms.specs.Incumbents.{Incumbent}
-use Rattle.bl_leaf_terms.specs.Leaves.{ClosedLeaf}
+use Rattle.bl_leaf_terms.specs.Leaves as leaves
+use Rattle.bl_leaf_terms.specs.Leaves.{ClosedLeaf, IsBounded}
 use Rattle.bl_book_terms.specs.Books.{Status, Ready, Claimed, Divided, Closed, Node, node_at, Book, Ledger, IsRun}
 use Rattle.bl_book_terms.specs.Books.{IsFinished}
 use Rattle.bl_cert_terms.specs.declared.stated.Statement.{Statement}
@@ -68,3 +73,11 @@ abbrev pub FinishedBookHasCertificate : Type 0
 FinishedBookHasCertificate =
     (l : Ledger) → IsModel l.book.program → 1 ≤ l.book.limit → IsRun l → IsFinished l.book → LeavesStandAlone l.book
     → IsSome (certificate_of l.book)
+
+-- a leaf can, where its cuts differ from each other by box or row, and no cut has a step twice
+abbrev pub OtherCutsStandAlone : Type 0
+OtherCutsStandAlone =
+    (p : Program) (a : Area) (u : Option ℤ) (w : Multipliers) (cuts : List NoGoodCut) (entry : Option Admitted)
+    → IsBounded p a u w cuts entry → AllPairs (λ c d. cut_of c ≢ cut_of d) cuts
+    → All (λ c. AllPairs (λ s t. s ≢ t) c.steps) cuts
+    → IsSome (placed_leaf (length p.rows + 1) [] (leaves.Bounded w cuts entry))

@@ -1,5 +1,6 @@
 //! Laws of the certificates of books.
 ghost use Rattle.bl_cert_book.specs.BookCertificates.{FinishedBookHasCertificate, FinishedBookIsAccepted};
+ghost use Rattle.bl_cert_book.specs.BookCertificates.{OtherCutsStandAlone};
 
 /// The certificate of every finished run is accepted.
 pub fn finished_book_is_accepted()
@@ -9,4 +10,9 @@ pub fn finished_book_is_accepted()
 /// Every finished run has a certificate, where each of its leaves alone can be written down.
 pub fn finished_book_has_certificate()
     ensures { FinishedBookHasCertificate }
+{}
+
+/// A leaf alone can be written down where no two of its cuts have one box and one row, and no cut has a step twice.
+pub fn other_cuts_stand_alone()
+    ensures { OtherCutsStandAlone }
 {}
