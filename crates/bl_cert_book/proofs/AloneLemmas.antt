@@ -1,31 +1,29 @@
 -- A leaf whose cuts differ by box or row, and whose cuts have each step once, can be written down alone.
-use Rattle.std.proofs.Common.{◌≡◌, ◌≢◌, ℕ, zero, suc, ◌+◌, ◌<◌, refl, sym, ◌∙◌, ap, subst, arith, true, cond, List, []}
-use Rattle.std.proofs.Common.{◌∷◌, ◌++◌, length, map, drop, Option, Some, None, inl, inr}
+use Rattle.std.proofs.Common.{◌≡◌, ◌≢◌, ℕ, zero, suc, ◌+◌, ◌<◌, refl, sym, ◌∙◌, ap, subst, arith, true, cond, List}
+use Rattle.std.proofs.Common.{[], ◌∷◌, ◌++◌, length, map, drop, Option, Some, None, inl, inr}
 use Rattle.std.specs.Prelude.{ℤ, All, AllPairs, is_some, IsSome, option_and_then}
 use Rattle.std.specs.List.{zip}
 use Rattle.std.proofs.lemmas.Bool.{cases_lt}
-use Rattle.std.proofs.lemmas.List.{append_assoc, append-nil, length_push, length-append, get_or_append_left, length-map}
-use Rattle.std.proofs.lemmas.List.{map_push}
+use Rattle.std.proofs.lemmas.List.{append_assoc, append-nil, length_push, length-append, get_or_append_left}
+use Rattle.std.proofs.lemmas.List.{length-map, map_push}
 use Rattle.std.proofs.lemmas.List.Elements.{All-head, All-tail, All-weaker}
 use Rattle.std.proofs.Math.Seq.{get_or-append_seam}
 use Rattle.bl_terms.specs.Points.{Area}
 use Rattle.bl_terms.specs.Programs.{Program}
 use Rattle.bl_cut_terms.specs.declared.parts.Tight.{Tight}
 use Rattle.bl_cut_terms.specs.declared.parts.Tight.TheVariants.{Row, Upper, Lower, Cut}
-use Rattle.bl_cut_terms.specs.NoGoods.{CutStep, LocalRow, local_row, AreCutSteps, NoGoodCut, no_step, step_at}
-use Rattle.bl_cut_terms.specs.NoGoods.{cut_of}
-use Rattle.bl_cut_proof.specs.Adopting.{renumbered, moved_step, are_in_order, place_in, Adopted, with_adopted}
-use Rattle.bl_cut_proof.specs.Adopting.{adopt, adopt_cut, last_place, noted}
+use Rattle.bl_cut_terms.specs.NoGoods.{CutStep, LocalRow, local_row, AreCutSteps, NoGoodCut, no_step, step_at, cut_of}
+use Rattle.bl_cut_proof.specs.Adopting.{renumbered, moved_step, are_in_order, place_in, Adopted, with_adopted, adopt}
+use Rattle.bl_cut_proof.specs.Adopting.{adopt_cut, last_place, noted}
 use Rattle.bl_cut_proof.proofs.AdoptLemmas.{Decides-order, with_step-at}
 use Rattle.bl_leaf_terms.specs.Leaves.{IsCutFor, IsBounded}
-use Rattle.bl_cert_book.specs.Leaves.{adopt_all, cited_pairs, bounded_leaf}
+use Rattle.bl_leaf_terms.specs.Leaves as leaves
+use Rattle.bl_cert_book.specs.Leaves.{adopt_all, cited_pairs, bounded_leaf, placed_leaf}
 use Rattle.bl_cert_book.proofs.Sorting.{itself, IsOther, AreApart}
 use Rattle.bl_cert_book.proofs.Moves.{moved_alike, moved_itself}
-use Rattle.bl_cert_book.proofs.Steps.{at, all_at, IsBelow, IsClearStep, clear_step, AreDistinct, place_end}
-use Rattle.bl_cert_book.proofs.Steps.{with_old, with_new}
-use Rattle.bl_cert_book.specs.Leaves.{placed_leaf}
+use Rattle.bl_cert_book.proofs.Steps.{at, all_at, IsBelow, IsClearStep, clear_step, AreDistinct, place_end, with_old}
+use Rattle.bl_cert_book.proofs.Steps.{with_new}
 use Rattle.bl_cert_book.specs.BookCertificates.{OtherCutsStandAlone}
-use Rattle.bl_leaf_terms.specs.Leaves as leaves
 use Rattle.bl_cert_book.proofs.PlacedTrees.{rising_sorted, test_of_rising, leaf_with}
 use Rattle.bl_cert_book.proofs.CutLemmas.{StandsAt, StandAt, cuts_taken}
 use Rattle.bl_cert_book.proofs.Followings.{follow_adopt}

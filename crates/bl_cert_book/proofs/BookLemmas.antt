@@ -1,40 +1,35 @@
 -- The certificate of a finished book is accepted.
-use Rattle.std.proofs.Common.{◌≡◌, ℕ, ◌+◌, ◌<◌, refl, sym, ◌∙◌, ap, subst, arith, List, [], ◌∷◌, ◌++◌, length}
-use Rattle.std.proofs.Common.{Option, Some, None}
-use Rattle.std.specs.Prelude.{All}
+use Rattle.std.proofs.Common.{◌≡◌, ℕ, ◌+◌, ◌<◌, refl, sym, ◌∙◌, ap, subst, arith, List, [], ◌∷◌, ◌++◌, length, Option}
+use Rattle.std.proofs.Common.{Some, None, inl, inr, ◌≤◌}
+use Rattle.std.specs.Prelude.{All, IsSome, option_map}
 use Rattle.std.proofs.lemmas.Int.{ints}
 use Rattle.std.proofs.lemmas.List.Elements.{All-cons, All-nil, All-append}
-use Rattle.std.proofs.Common.{inl, inr, ◌≤◌}
-use Rattle.std.specs.Prelude.{IsSome, option_map}
 use Rattle.std.proofs.lemmas.Bool.{cases_lt, false≢true}
-use Rattle.std.proofs.lemmas.List.{get_or_past}
-use Rattle.bl_leaf_terms.specs.Leaves.{ClosedLeaf}
-use Rattle.bl_book_terms.specs.Books.{no_node}
-use Rattle.bl_cert_book.specs.Leaves.{placed_leaf}
-use Rattle.bl_cert_book.specs.BookCertificates.{certificate_of, LeavesStandAlone, FinishedBookHasCertificate}
-use Rattle.bl_cert_book.proofs.PlacedTrees.{StandsAlone, leaves_under, can_place_tree}
+use Rattle.std.proofs.lemmas.List.{get_or_past, length-append}
 use Rattle.bl_terms.specs.Points.{Area}
 use Rattle.bl_terms.specs.Programs.{Program, root, link_of, cost_at, follower_at, value_at}
 use Rattle.bl_terms.specs.Responses.{Entry, Best, NoResponse, IsTrueEntry}
 use Rattle.bl_terms.specs.Feasible.{BilevelFeasible}
 use Rattle.bl_terms.specs.Trees.{Anything, Covers, low_half, high_half}
-use Rattle.std.proofs.lemmas.List.{length-append}
 use Rattle.bl_terms.proofs.ResponseLemmas.{entry_law, no_response_no_point, lower_from_rows}
 use Rattle.bl_model.specs.View.{IsModel}
 use Rattle.bl_fproof.specs.Steps.{entry_of}
+use Rattle.bl_leaf_terms.specs.Leaves.{ClosedLeaf}
 use Rattle.bl_leaf_terms.specs.Incumbents.{Incumbent, AreIncumbents, IsEntryFor, cutoff_of}
 use Rattle.bl_leaf_terms.proofs.LeafLemmas.{true_entry}
-use Rattle.bl_book_terms.specs.Books.{Status, Ready, Claimed, Divided, Closed, Node, node_at, Book, with_status}
-use Rattle.bl_book_terms.specs.Books.{ready_node, opening, after, Event, Claim, Back, Split, Close, Offer, Leads}
-use Rattle.bl_book_terms.specs.Books.{IsCurrent, IsFinished, best_value}
+use Rattle.bl_book_terms.specs.Books.{no_node, Status, Ready, Claimed, Divided, Closed, Node, node_at, Book}
+use Rattle.bl_book_terms.specs.Books.{with_status, ready_node, opening, after, Event, Claim, Back, Split, Close}
+use Rattle.bl_book_terms.specs.Books.{Offer, Leads, IsCurrent, IsFinished, best_value}
 use Rattle.bl_book_terms.proofs.NodeLemmas.{same_length, same_area, old_node}
 use Rattle.bl_book_terms.specs.Laws.{IsSound}
 use Rattle.bl_book_terms.proofs.RunLemmas.{every_run_is_sound}
-use Rattle.bl_cert_terms.specs.Certificates.{ProvedEntry, IsProvedEntry, SaysBest, IsShownPoint}
-use Rattle.bl_cert_terms.specs.Certificates.{HasShownPoint, IsAccepted, stated_cutoff}
-use Rattle.bl_cert_book.specs.Entries.{entries_of_best, entries_of_tree, with_entries}
-use Rattle.bl_cert_book.specs.Leaves.{PlacedTree, placed_tree}
+use Rattle.bl_cert_terms.specs.Certificates.{ProvedEntry, IsProvedEntry, SaysBest, IsShownPoint, HasShownPoint}
+use Rattle.bl_cert_terms.specs.Certificates.{IsAccepted, stated_cutoff}
+use Rattle.bl_cert_book.specs.Leaves.{placed_leaf, PlacedTree, placed_tree}
+use Rattle.bl_cert_book.specs.BookCertificates.{certificate_of, LeavesStandAlone, FinishedBookHasCertificate}
 use Rattle.bl_cert_book.specs.BookCertificates.{book_tree, stated_by, certificate_with, FinishedBookIsAccepted}
+use Rattle.bl_cert_book.proofs.PlacedTrees.{StandsAlone, leaves_under, can_place_tree}
+use Rattle.bl_cert_book.specs.Entries.{entries_of_best, entries_of_tree, with_entries}
 use Rattle.bl_cert_book.proofs.EntryLemmas.{IsAnswerOf, HasLink, all_entries, rising_entries, links_there, says_best}
 use Rattle.bl_cert_book.proofs.CutLemmas.{extends_itself}
 use Rattle.bl_cert_book.proofs.TreeLemmas.{IsBookLeaf, tree_covers, tree_answers, tree_placed, option_map_some}

@@ -1,14 +1,14 @@
 -- The cuts that a leaf cites stand in the certificate.
-use Rattle.std.proofs.Common.{◌≡◌, ℕ, suc, ◌-◌, ◌<◌, refl, sym, ◌∙◌, ap, subst, arith, List, [], ◌∷◌, ◌++◌}
-use Rattle.std.proofs.Common.{length, map, Option, Some, None}
+use Rattle.std.proofs.Common.{◌≡◌, ℕ, suc, ◌-◌, ◌<◌, refl, sym, ◌∙◌, ap, subst, arith, List, [], ◌∷◌, ◌++◌, length}
+use Rattle.std.proofs.Common.{map, Option, Some, None}
 use Rattle.std.specs.Prelude.{All}
 use Rattle.std.proofs.lemmas.Option.{option_and_then_some}
 use Rattle.std.proofs.lemmas.List.{length-map, get_or-map, append_assoc, append-nil}
 use Rattle.std.proofs.lemmas.List.Elements.{All-head, All-tail, All-cons, All-nil}
 use Rattle.bl_terms.specs.Points.{Area}
 use Rattle.bl_terms.specs.Programs.{Program}
-use Rattle.bl_cut_terms.specs.NoGoods.{LocalRow, no_local_row, local_row_at, local_row, CutStep, AreCutSteps, NoGoodCut}
-use Rattle.bl_cut_terms.specs.NoGoods.{no_step, step_at, cut_of}
+use Rattle.bl_cut_terms.specs.NoGoods.{LocalRow, no_local_row, local_row_at, local_row, CutStep, AreCutSteps}
+use Rattle.bl_cut_terms.specs.NoGoods.{NoGoodCut, no_step, step_at, cut_of}
 use Rattle.bl_cut.proofs.CutLemmas.{last_at}
 use Rattle.bl_cut_proof.specs.Adopting.{Adopted, adopt, last_place, noted, adopt_cut}
 use Rattle.bl_cut_proof.proofs.AdoptLemmas.{Extends, some_same, adopt_shown, last_place-at}

@@ -13,11 +13,11 @@ use Rattle.std.proofs.lemmas.List.Kept.{AllPairs-cons}
 use Rattle.bl_terms.specs.Programs.{Program}
 use Rattle.bl_terms.specs.Responses.{Entry, Best, NoResponse, IsTrueEntry}
 use Rattle.bl_terms.proofs.FollowerProofLemmas.{follower_proof_law}
+use Rattle.bl_model.specs.View.{IsModel}
 use Rattle.bl_fproof.specs.Entries.{Admitted, IsAdmitted}
 use Rattle.bl_fproof.specs.Steps.{entry_of}
 use Rattle.bl_leaf_terms.specs.Incumbents.{IsEntryFor}
 use Rattle.bl_leaf_terms.proofs.LeafLemmas.{true_entry}
-use Rattle.bl_model.specs.View.{IsModel}
 use Rattle.bl_cert_terms.specs.Certificates.{ProvedEntry, IsProvedEntry, ComesBefore, AreRising, Says, SaysBest}
 use Rattle.bl_cert_book.specs.Entries.{proved_entry, with_entry, with_entries}
 

@@ -1,24 +1,23 @@
 -- Cuts that can be taken over into an empty list can be taken over into each list, to places that stay apart.
-use Rattle.std.proofs.Common.{◌≡◌, ℕ, ◌<◌, ◌≤◌, refl, sym, ◌∙◌, ap, subst, arith, Bool, true, false}
-use Rattle.std.proofs.Common.{cond, List, [], ◌∷◌, ◌++◌, length, Option, Some, None, inl, inr}
-use Rattle.std.specs.Prelude.{All}
+use Rattle.std.proofs.Common.{◌≡◌, ℕ, ◌<◌, ◌≤◌, refl, sym, ◌∙◌, ap, subst, arith, Bool, true, false, cond, List, []}
+use Rattle.std.proofs.Common.{◌∷◌, ◌++◌, length, Option, Some, None, inl, inr}
+use Rattle.std.specs.Prelude.{All, option_and_then}
 use Rattle.std.proofs.lemmas.Bool.{cases_lt}
 use Rattle.std.proofs.lemmas.Option.{option_and_then_some}
 use Rattle.std.proofs.lemmas.List.{length_push, get_or_append_left, map_push, length-map}
 use Rattle.std.proofs.lemmas.List.Elements.{All-from_get_or, All-weaker, All-nil, All-cons, All-append, All-head}
 use Rattle.std.proofs.lemmas.List.Elements.{All-tail}
 use Rattle.std.proofs.Math.Seq.{get_or-append_seam}
-use Rattle.std.specs.Prelude.{option_and_then}
 use Rattle.bl_terms.specs.Points.{Area}
 use Rattle.bl_terms.specs.Programs.{Program}
-use Rattle.bl_leaf_terms.specs.Leaves.{IsCutFor}
-use Rattle.bl_cert_book.specs.Leaves.{adopt_all}
-use Rattle.bl_cert_book.proofs.CutLemmas.{some_length}
 use Rattle.bl_cut_terms.specs.NoGoods.{LocalRow, local_row, CutStep, IsCutStep, AreCutSteps, NoGoodCut, no_step}
 use Rattle.bl_cut_terms.specs.NoGoods.{step_at}
 use Rattle.bl_cut_proof.specs.Adopting.{are_in_order, moved_step, place_in, with_step, Adopted, with_adopted, adopt}
 use Rattle.bl_cut_proof.specs.Adopting.{last_place, noted, adopt_cut}
 use Rattle.bl_cut_proof.proofs.AdoptLemmas.{some_same, IsAdopted, adopt_shown, Decides-order, with_step-at}
+use Rattle.bl_leaf_terms.specs.Leaves.{IsCutFor}
+use Rattle.bl_cert_book.specs.Leaves.{adopt_all}
+use Rattle.bl_cert_book.proofs.CutLemmas.{some_length}
 use Rattle.bl_cert_book.proofs.Steps.{at, ArePlacesApart, IsClearStep, clear_more, clear_step, clear_here, all_at}
 use Rattle.bl_cert_book.proofs.Steps.{moved_on, moved_apart, moved_longer, AreDistinct, place_found, place_is}
 use Rattle.bl_cert_book.proofs.Steps.{with_old, with_new, place_end, distinct_with}

@@ -1,16 +1,15 @@
 -- What closes a leaf of a book closes it in the certificate.
-use Rattle.std.proofs.Common.{◌≡◌, ℕ, zero, suc, ◌+◌, ◌<◌, refl, sym, ◌∙◌, ap, subst, arith, Bool, true, false}
-use Rattle.std.proofs.Common.{cond, List, [], ◌∷◌, ◌++◌, length, map, take, drop, Option, Some, None, add-one}
+use Rattle.std.proofs.Common.{◌≡◌, ℕ, zero, suc, ◌+◌, ◌<◌, refl, sym, ◌∙◌, ap, subst, arith, Bool, true, false, cond}
+use Rattle.std.proofs.Common.{List, [], ◌∷◌, ◌++◌, length, map, take, drop, Option, Some, None, add-one}
 use Rattle.std.specs.Prelude.{ℤ, pos, ◌+ℤ◌, All, nat_lt, slice_index, is_some}
 use Rattle.std.specs.List.{zip}
 use Rattle.std.specs.List.Sorted.{IsStrictlyIncreasing}
 use Rattle.std.proofs.lemmas.Option.{option_and_then_some}
 use Rattle.std.proofs.lemmas.Bool.Decides.{nat_tests}
 use Rattle.std.proofs.lemmas.List.{length-append, length-map, length-take-le, length-drop, take-append-drop}
-use Rattle.std.proofs.lemmas.List.{append_assoc}
-use Rattle.std.proofs.lemmas.List.{get_or_append_left}
-use Rattle.std.proofs.lemmas.List.Elements.{All-append, All-take, All-drop, All-map, All-nil, All-cons}
-use Rattle.std.proofs.lemmas.List.Elements.{All-head, All-tail}
+use Rattle.std.proofs.lemmas.List.{append_assoc, get_or_append_left}
+use Rattle.std.proofs.lemmas.List.Elements.{All-append, All-take, All-drop, All-map, All-nil, All-cons, All-head}
+use Rattle.std.proofs.lemmas.List.Elements.{All-tail}
 use Rattle.std.proofs.lemmas.Slice.Zip.{firsts-zip, seconds-zip}
 use Rattle.bl_whole.specs.Sums.{component}
 use Rattle.bl_terms.specs.Points.{Area, IsWithinArea, Linear}
@@ -31,11 +30,10 @@ use Rattle.bl_cert_terms.specs.Certificates.{ProvedEntry, Bounded, NoAnswer, Cer
 use Rattle.bl_cert_terms.specs.Certificates.{UsesValue, Closes, stated_cutoff}
 use Rattle.bl_cert_book.specs.Entries.{entries_of_leaf}
 use Rattle.bl_cert_book.specs.Leaves.{adopt_all, by_place, are_rising, cited_pairs, with_pairs, PlacedLeaf}
-use Rattle.bl_cert_book.specs.Leaves.{bounded_leaf}
-use Rattle.bl_cert_book.specs.Leaves.{placed_leaf}
+use Rattle.bl_cert_book.specs.Leaves.{bounded_leaf, placed_leaf}
 use Rattle.bl_cert_book.proofs.Weights.{weighted, weighted-append, places_of, multipliers_of, pair_sum}
-use Rattle.bl_cert_book.proofs.Weights.{pair_sum-by_place, all-by_place, length-by_place, IsMultiplier, each_multiplier}
-use Rattle.bl_cert_book.proofs.Weights.{proves_over, proves_lower}
+use Rattle.bl_cert_book.proofs.Weights.{pair_sum-by_place, all-by_place, length-by_place, IsMultiplier}
+use Rattle.bl_cert_book.proofs.Weights.{each_multiplier, proves_over, proves_lower}
 use Rattle.bl_cert_book.proofs.EntryLemmas.{HasLink, says_best, says_none}
 use Rattle.bl_cert_book.proofs.CutLemmas.{StandAt, stand_later, stand_count, stand_rows, at_each_place}
 use Rattle.bl_cert_book.proofs.CutLemmas.{extends_itself, cuts_taken}

@@ -1,6 +1,6 @@
 -- The leaves of a book can be written down one after the other where each can be alone.
-use Rattle.std.proofs.Common.{◌≡◌, ◌≢◌, ℕ, zero, suc, ◌<◌, refl, sym, ◌∙◌, ap, subst, arith, Bool, true, false}
-use Rattle.std.proofs.Common.{cond, ◌&&◌, List, [], ◌∷◌, ◌++◌, length, map, drop, Option, Some, None}
+use Rattle.std.proofs.Common.{◌≡◌, ◌≢◌, ℕ, zero, suc, ◌<◌, refl, sym, ◌∙◌, ap, subst, arith, Bool, true, false, cond}
+use Rattle.std.proofs.Common.{◌&&◌, List, [], ◌∷◌, ◌++◌, length, map, drop, Option, Some, None}
 use Rattle.std.specs.Prelude.{ℤ, not, All, nat_lt, is_some, option_map, option_and_then}
 use Rattle.std.specs.List.{zip}
 use Rattle.std.proofs.lemmas.Bool.{false_from_ne_true}
@@ -20,8 +20,7 @@ use Rattle.bl_leaf_terms.specs.Leaves.{Evidence, ClosedLeaf, IsCutFor, IsShownCl
 use Rattle.bl_book_terms.specs.Books.{Status, Ready, Claimed, Divided, Closed, Node, node_at, Book}
 use Rattle.bl_cert_terms.specs.Certificates.{Bounded, NoAnswer}
 use Rattle.bl_cert_book.specs.Leaves.{adopt_all, put_by_place, by_place, are_rising, cited_pairs, with_pairs}
-use Rattle.bl_cert_book.specs.Leaves.{PlacedLeaf}
-use Rattle.bl_cert_book.specs.Leaves.{bounded_leaf, placed_leaf, PlacedTree, with_node, placed_tree}
+use Rattle.bl_cert_book.specs.Leaves.{PlacedLeaf, bounded_leaf, placed_leaf, PlacedTree, with_node, placed_tree}
 use Rattle.bl_cert_book.specs.BookCertificates.{by_status, tree_under}
 use Rattle.bl_cert_book.proofs.Sorting.{IsStrict, itself, keyed, IsOther, AreApart, AllKeys, KeepsApart, apart_by}
 use Rattle.bl_cert_book.proofs.Sorting.{apart_keyed, put, IsRising, other_put, other_of_put, apart_put, put_rising}

@@ -1,19 +1,19 @@
 -- Bound proofs over rows that stand in another order.
-use Rattle.std.proofs.Common.{◌≡◌, ℕ, suc, ◌+◌, refl, sym, ◌∙◌, ap, subst, arith, Bool, true, false, cond}
-use Rattle.std.proofs.Common.{List, [], ◌∷◌, ◌++◌, length, map, Option, Some, None}
+use Rattle.std.proofs.Common.{◌≡◌, ℕ, suc, ◌+◌, refl, sym, ◌∙◌, ap, subst, arith, Bool, true, false, cond, List, []}
+use Rattle.std.proofs.Common.{◌∷◌, ◌++◌, length, map, Option, Some, None}
 use Rattle.std.specs.Prelude.{ℤ, pos, ◌+ℤ◌, ◌-ℤ◌, ◌*ℤ◌, ◌≤ℤ◌, ◌<ℤ◌, All, nat_lt}
 use Rattle.std.proofs.lemmas.Int.{ints}
 use Rattle.std.proofs.lemmas.List.{length-append, get_or_append_left, get_or-append-add}
 use Rattle.std.proofs.lemmas.List.Elements.{All-from_get_or, All-cons, All-head, All-tail}
+use Rattle.std.proofs.Math.IntN.{zero-*ℤ}
 use Rattle.bl_limits.specs.declared.TheConstants.{MAX_PROOF_NUMBER}
 use Rattle.bl_whole.specs.Sums.{component, sum_below}
-use Rattle.std.proofs.Math.IntN.{zero-*ℤ}
 use Rattle.bl_whole.proofs.Products.{mul_le_left}
-use Rattle.bl_book_terms.specs.Books.{IsCurrent}
 use Rattle.bl_whole.proofs.SumLemmas.{sum_below-agree, sum_below-split, sum_below_front}
 use Rattle.bl_terms.specs.Points.{Area, Linear}
 use Rattle.bl_terms.specs.Bounds.{Problem, Multipliers, AreMultipliers, Proves, linear_at, no_linear, reduced_cost}
 use Rattle.bl_terms.specs.Bounds.{least_product, least_term, rhs_sum, dual_bound, target_of}
+use Rattle.bl_book_terms.specs.Books.{IsCurrent}
 use Rattle.bl_cert_book.specs.Leaves.{put_by_place, by_place}
 
 -- ---- sums over rows

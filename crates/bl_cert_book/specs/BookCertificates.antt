@@ -1,7 +1,6 @@
 -- Trusted. The certificate of a finished book, and that it is accepted.
 use Rattle.std.specs.Prelude.{ℕ, zero, suc, ◌≡◌, ◌+◌, ◌<◌, ◌≤◌, List, [], ◌∷◌, ◌++◌, length, Option, Some, None}
-use Rattle.std.specs.Prelude.{option_map}
-use Rattle.std.specs.Prelude.{IsSome, ℤ, ◌≢◌, All, AllPairs}
+use Rattle.std.specs.Prelude.{option_map, IsSome, ℤ, ◌≢◌, All, AllPairs}
 use Rattle.bl_terms.specs.Points.{Area}
 use Rattle.bl_terms.specs.Programs.{Program, value_at}
 use Rattle.bl_terms.specs.Bounds.{Multipliers}
@@ -42,7 +41,7 @@ abbrev pub stated_by : Program → Option Incumbent → Statement
 stated_by p None = Infeasible
 stated_by p (Some f) = Optimal f.point (value_at p f.point)
 
--- the certificate of a book. There is none where a leaf cites two cuts that are one, or where a cut uses two such cuts
+-- a book's statement and entries, with the cuts and the tree in which its leaves are placed
 abbrev pub certificate_with : Book → PlacedTree → Certificate
 certificate_with b t = record {
   statement = stated_by b.program b.best;
@@ -51,6 +50,7 @@ certificate_with b t = record {
   tree = t.nodes;
 }
 
+-- the certificate of a book. There is none where a leaf cites two cuts that are one, or where a cut uses two such cuts
 abbrev pub certificate_of : Book → Option Certificate
 certificate_of b = option_map (certificate_with b) (placed_tree (length b.program.rows + 1) [] (book_tree b))
 

@@ -1,19 +1,20 @@
 -- An accepted certificate implies its statement.
 use Rattle.std.proofs.Common.{◌≡◌, ℕ, zero, suc, ◌<◌, refl, sym, ◌∙◌, ap, subst, arith, Bool, true, false, List, []}
 use Rattle.std.proofs.Common.{◌∷◌, ◌++◌, length, inl, inr}
-use Rattle.std.specs.Prelude.{ℤ, pos, ◌≤ℤ◌, slice_index, slice_index_or, Option, Some, None, map, All}
+use Rattle.std.specs.Prelude.{ℤ, pos, ◌≤ℤ◌, slice_index, slice_index_or, Option, Some, None, map, All, ◌↔◌}
 use Rattle.std.specs.List.{range_with_len}
-use Rattle.std.specs.Ordering.{int_cmp}
+use Rattle.std.specs.Ordering.{int_cmp, ordering_reverse}
 use Rattle.std.specs.Cmp.Lexicographic.{slice_cmp}
 use Rattle.std.specs.declared.cmp.Ordering.{Ordering}
 use Rattle.std.specs.declared.cmp.Ordering.TheVariants.{Less, Equal, Greater}
-use Rattle.std.specs.Ordering.{ordering_reverse}
 use Rattle.std.proofs.lemmas.Cmp.{lists_total, int_cmp_total}
 use Rattle.std.proofs.lemmas.Int.{ints}
 use Rattle.std.proofs.lemmas.Bool.{cases_lt}
-use Rattle.std.proofs.lemmas.List.{length-map, get_or_default, ext_get_or}
+use Rattle.std.proofs.lemmas.List.{length-map, get_or_default, ext_get_or, append-nil, append_assoc, length_push}
 use Rattle.std.proofs.lemmas.List.FromFn.{length-range_with_len}
 use Rattle.std.proofs.lemmas.List.Elements.{All-append, All-map}
+use Rattle.std.proofs.lemmas.List.Quantifiers.{all_pairs_push}
+use Rattle.std.proofs.Math.Seq.{get_or-append_seam}
 use Rattle.bl_whole.specs.Sums.{component, dot}
 use Rattle.bl_terms.specs.Points.{Area, IsArea, InArea, Fixes, Linear, Meets}
 use Rattle.bl_terms.specs.Programs.{Program, Row, IsProgram, columns, no_row, inequality, root, link_of, cost_at}
@@ -36,8 +37,9 @@ use Rattle.bl_cert_terms.specs.declared.stated.Statement.{Statement}
 use Rattle.bl_cert_terms.specs.declared.stated.Statement.TheVariants.{Optimal, Infeasible}
 use Rattle.bl_cert_terms.specs.Certificates.{ProvedEntry, LeafProof, Bounded, NoAnswer, Certificate, StatementHolds}
 use Rattle.bl_cert_terms.specs.Certificates.{stated_cutoff, IsProvedEntry, ComesBefore, AreRising, Says}
-use Rattle.bl_cert_terms.specs.Certificates.{HasShownPoint, IsCited, UsesValue, IsBounded, Closes}
-use Rattle.bl_cert_terms.specs.Certificates.{IsAccepted, AcceptedLaw, EntriesAreTrue, CutsAreValid, OneEntryForLink}
+use Rattle.bl_cert_terms.specs.Certificates.{HasShownPoint, IsCited, UsesValue, IsBounded, Closes, IsAccepted}
+use Rattle.bl_cert_terms.specs.Certificates.{AcceptedLaw, EntriesAreTrue, CutsAreValid, OneEntryForLink, OneMoreRises}
+use Rattle.bl_cert_terms.specs.Certificates.{CutsInTurn}
 
 -- ---- the entries
 
@@ -91,10 +93,47 @@ one_entry_for_link entries l x y rising (i, e, b, is, (link, says)) (j, f, b', i
     let one : e ≡ f = sym is ∙ ap (λ k. slice_index_or entries k e) same ∙ at_j in
     sym says ∙ ap (λ (r : ProvedEntry). r.entry) one ∙ says'
 
+pub one_more_rises : OneMoreRises
+one_more_rises entries last e rising before =
+    let whole = entries ++ last ∷ [] in
+    let l = length_push entries last in
+    all_pairs_push (λ x y. ComesBefore x.link y.link) whole e rising (λ k d b. elim (cases_lt k (length entries)) [
+      | inl c ↦
+          let to_last : ComesBefore (slice_index_or whole k d).link (slice_index_or whole (length entries) d).link =
+          rising k (length entries) d c (omega arith) in
+          let same : slice_index_or whole (length entries) d ≡ last = get_or-append_seam entries last [] d in
+          (lists_total int_cmp_total).trans (slice_index_or whole k d).link last.link e.link
+          (subst (λ (x : ProvedEntry). ComesBefore (slice_index_or whole k d).link x.link) same to_last) before
+      | inr c ↦
+          let end : k ≡ length entries = omega arith in
+          let same : slice_index_or whole k d ≡ last =
+          ap (λ i. slice_index_or whole i d) end ∙ get_or-append_seam entries last [] d in
+          subst (λ (x : ProvedEntry). ComesBefore x.link e.link) (sym same) before
+    ])
+
 -- ---- the cuts
 
 pub cuts_are_valid : CutsAreValid
 cuts_are_valid p c g h = no_goods_law p c.cuts g h.cuts
+
+-- steps behind others are shown by these and the ones before them
+steps_in_turn : (p : Program) (earlier : List LocalRow) (steps more : List CutStep)
+    → AreCutSteps p earlier (steps ++ more)
+    ↔ (AreCutSteps p earlier steps × AreCutSteps p (earlier ++ map local_row steps) more)
+steps_in_turn p earlier [] more = (
+  λ h. (tt, subst (λ (rows : List LocalRow). AreCutSteps p rows more) (sym (append-nil earlier)) h),
+  λ h. subst (λ (rows : List LocalRow). AreCutSteps p rows more) (append-nil earlier) h.1,
+)
+steps_in_turn p earlier (s ∷ steps) more =
+    let rest = steps_in_turn p (earlier ++ local_row s ∷ []) steps more in
+    let rows = append_assoc earlier (local_row s ∷ []) (map local_row steps) in (
+      λ h. let r = rest.0 h.1 in
+          ((h.0, r.0), subst (λ (rows : List LocalRow). AreCutSteps p rows more) rows r.1),
+      λ h. (h.0.0, rest.1 (h.0.1, subst (λ (rows : List LocalRow). AreCutSteps p rows more) (sym rows) h.1)),
+    )
+
+pub cuts_in_turn : CutsInTurn
+cuts_in_turn p cuts more = steps_in_turn p [] cuts more
 
 -- the row of each cut has a coefficient for each column
 counted : (p : Program) (earlier : List LocalRow) (steps : List CutStep) → AreCutSteps p earlier steps

@@ -1,14 +1,13 @@
 -- The certificates that were worked out by hand.
 use Rattle.std.proofs.Common.{◌≡◌, ℕ, zero, suc, ◌<◌, refl, subst, arith, [], ◌∷◌, inl}
-use Rattle.std.specs.Prelude.{ℤ, pos, negsuc, ◌≤ℤ◌, slice_index, IsTrue, Option, Some, None, false, true, if◌then◌else◌}
-use Rattle.std.specs.Prelude.{nat_eq, slice_index_or}
+use Rattle.std.specs.Prelude.{ℤ, pos, negsuc, ◌≤ℤ◌, slice_index, IsTrue, Option, Some, None, false, true}
+use Rattle.std.specs.Prelude.{if◌then◌else◌, nat_eq, slice_index_or}
 use Rattle.std.specs.Int.Signed.{le_z_yes, lt_z_yes, clash_ℤ}
 use Rattle.std.proofs.lemmas.Bool.{false≢true}
 use Rattle.std.proofs.lemmas.List.Elements.{All-cons, All-nil}
 use Rattle.bl_limits.specs.declared.TheConstants.{MAX_PROBLEM_COEFFICIENT}
 use Rattle.bl_whole.specs.Sums.{component, dot}
 use Rattle.bl_whole.specs.Within.{IsWithin, AreWithin}
-use Rattle.bl_cut_terms.specs.declared.parts.Tight.TheVariants.{Row, Upper}
 use Rattle.bl_terms.specs.Points.{IsArea}
 use Rattle.bl_terms.specs.Programs.{Program, root, row_at}
 use Rattle.bl_terms.specs.Responses.{InRanges, IsResponse, lhs_of}
@@ -19,13 +18,13 @@ use Rattle.bl_terms.proofs.PointLemmas.{part_of_itself}
 use Rattle.bl_terms.proofs.EveryPointLemmas.{is_in_decides, meets_rows_decides}
 use Rattle.bl_terms.proofs.ExampleTests.{proves_from_tests}
 use Rattle.bl_terms.proofs.ExampleLemmas.{worked_examples}
-use Rattle.bl_cut_terms.specs.NoGoods.{IsThere, IsUnit, IsCutStep, HasSize, Inverts, IsTightAt}
-use Rattle.bl_cut_terms.specs.NoGoods.{cut_row, tight_rows, combined, unit_at}
+use Rattle.bl_cut_terms.specs.declared.parts.Tight.TheVariants.{Row, Upper}
+use Rattle.bl_cut_terms.specs.NoGoods.{IsThere, IsUnit, IsCutStep, HasSize, Inverts, IsTightAt, cut_row, tight_rows}
+use Rattle.bl_cut_terms.specs.NoGoods.{combined, unit_at}
 use Rattle.bl_leaf_terms.specs.Leaves.{leaf_problem}
-use Rattle.bl_cert_terms.specs.Certificates.{IsProvedEntry, AreRising, ProvedEntry, IsCited}
-use Rattle.bl_cert_terms.specs.Certificates.{IsBounded, IsAccepted}
-use Rattle.bl_cert_terms.specs.Examples.{answer_without_rows, refusal, refusal_without_value, answer_to_one, cut_at_top}
-use Rattle.bl_cert_terms.specs.Examples.{one_cut_closes, no_cut_closes, WorkedCertificates}
+use Rattle.bl_cert_terms.specs.Certificates.{IsProvedEntry, AreRising, ProvedEntry, IsCited, IsBounded, IsAccepted}
+use Rattle.bl_cert_terms.specs.Examples.{answer_without_rows, refusal, refusal_without_value, answer_to_one}
+use Rattle.bl_cert_terms.specs.Examples.{cut_at_top, one_cut_closes, no_cut_closes, WorkedCertificates}
 use Rattle.bl_cert_terms.proofs.CertificateLemmas.{accepted_law}
 
 -- ---- lists of one item

@@ -1,7 +1,7 @@
 -- Trusted. Certificates of an answer to a bilevel program, when one is accepted, and that what it states is then true.
 -- A certificate is a branch-and-bound tree (Land and Doig 1960) whose leaves are closed by bounds over valid rows, with
 -- the proofs of what it says of the follower and of its cuts. Nothing here asks who wrote it.
-use Rattle.std.specs.Prelude.{ℕ, ℤ, pos, Bool, true, false, ◌≡◌, ◌<◌, ◌≤◌, List, [], ◌∷◌, length, map}
+use Rattle.std.specs.Prelude.{ℕ, ℤ, pos, Bool, true, false, ◌≡◌, ◌<◌, ◌≤◌, ◌↔◌, List, [], ◌∷◌, ◌++◌, length, map}
 use Rattle.std.specs.Prelude.{Option, Some, None, All, AllPairs, Any}
 use Rattle.std.specs.List.Sorted.{IsStrictlyIncreasing}
 use Rattle.std.specs.Ordering.{int_cmp}
@@ -10,14 +10,15 @@ use Rattle.std.specs.declared.cmp.Ordering.TheVariants.{Less}
 use Rattle.bl_limits.specs.declared.TheConstants.{MAX_CUTS}
 use Rattle.bl_whole.specs.Sums.{component}
 use Rattle.bl_terms.specs.Points.{Area, IsWithinArea, Fixes}
-use Rattle.bl_terms.specs.Programs.{Program, IsProgram, InBox, MeetsRows, root, link_of, cost_at, value_at, follower_at}
+use Rattle.bl_terms.specs.Programs.{Program, IsProgram, InBox, MeetsRows, root, link_of, cost_at, value_at}
+use Rattle.bl_terms.specs.Programs.{follower_at}
 use Rattle.bl_terms.specs.Feasible as feasible
 use Rattle.bl_terms.specs.Responses.{Entry, Best, NoResponse, IsLink, IsTrueEntry}
 use Rattle.bl_terms.specs.Trees.{BareNode, Anything, Covers}
 use Rattle.bl_terms.specs.Bounds.{Multipliers, Proves}
 use Rattle.bl_terms.specs.FollowerProofs.{IsFollowerProof}
 use Rattle.bl_cut_terms.specs.ValidRows.{IsValidRow}
-use Rattle.bl_cut_terms.specs.NoGoods.{CutStep, step_at, AreCutSteps}
+use Rattle.bl_cut_terms.specs.NoGoods.{CutStep, step_at, local_row, AreCutSteps}
 use Rattle.bl_leaf_terms.specs.Nodes.{fixed_link}
 use Rattle.bl_leaf_terms.specs.Leaves.{leaf_problem}
 use Rattle.bl_cert_terms.specs.declared.stated.Statement.{Statement}
@@ -157,3 +158,15 @@ abbrev pub OneEntryForLink : Type 0
 OneEntryForLink =
     (entries : List ProvedEntry) (l : List ℤ) (x y : Entry) → AreRising entries → Says entries l x → Says entries l y
     → x ≡ y
+
+-- one more entry rises where its link comes after the last one's
+abbrev pub OneMoreRises : Type 0
+OneMoreRises =
+    (entries : List ProvedEntry) (last e : ProvedEntry) → AreRising (entries ++ last ∷ [])
+    → ComesBefore last.link e.link → AreRising ((entries ++ last ∷ []) ++ e ∷ [])
+
+-- cuts may be shown one part of the list after the other
+abbrev pub CutsInTurn : Type 0
+CutsInTurn =
+    (p : Program) (cuts more : List CutStep)
+    → AreCutSteps p [] (cuts ++ more) ↔ (AreCutSteps p [] cuts × AreCutSteps p (map local_row cuts) more)
