@@ -1,9 +1,9 @@
--- A leaf whose cuts differ by box or row, and whose cuts have each step once, can be written down alone.
+-- Cuts that were made from others can be written down alone, and so can a leaf whose cuts differ by box or row.
 use Rattle.std.proofs.Common.{◌≡◌, ◌≢◌, ℕ, zero, suc, ◌+◌, ◌<◌, refl, sym, ◌∙◌, ap, subst, arith, true, cond, List}
-use Rattle.std.proofs.Common.{[], ◌∷◌, ◌++◌, length, map, drop, Option, Some, None, inl, inr}
+use Rattle.std.proofs.Common.{[], ◌∷◌, ◌++◌, length, map, drop, Option, Some, None, inl, inr, Bool, false}
 use Rattle.std.specs.Prelude.{ℤ, All, AllPairs, is_some, IsSome, option_and_then}
 use Rattle.std.specs.List.{zip}
-use Rattle.std.proofs.lemmas.Bool.{cases_lt}
+use Rattle.std.proofs.lemmas.Bool.{cases_lt, false≢true}
 use Rattle.std.proofs.lemmas.List.{append_assoc, append-nil, length_push, length-append, get_or_append_left}
 use Rattle.std.proofs.lemmas.List.{length-map, map_push}
 use Rattle.std.proofs.lemmas.List.Elements.{All-head, All-tail, All-weaker}
@@ -14,16 +14,18 @@ use Rattle.bl_cut_terms.specs.declared.parts.Tight.{Tight}
 use Rattle.bl_cut_terms.specs.declared.parts.Tight.TheVariants.{Row, Upper, Lower, Cut}
 use Rattle.bl_cut_terms.specs.NoGoods.{CutStep, LocalRow, local_row, AreCutSteps, NoGoodCut, no_step, step_at, cut_of}
 use Rattle.bl_cut_proof.specs.Adopting.{renumbered, moved_step, are_in_order, place_in, Adopted, with_adopted, adopt}
-use Rattle.bl_cut_proof.specs.Adopting.{adopt_cut, last_place, noted}
-use Rattle.bl_cut_proof.proofs.AdoptLemmas.{Decides-order, with_step-at}
+use Rattle.bl_cut_proof.specs.Adopting.{adopt_cut, last_place, noted, adopt_cuts, is_used, own_step, with_own}
+use Rattle.bl_cut_proof.specs.Adopting.{moved_parts}
+use Rattle.bl_cut_proof.proofs.AdoptLemmas.{Decides-order, with_step-at, some_same}
 use Rattle.bl_leaf_terms.specs.Leaves.{IsCutFor, IsBounded}
 use Rattle.bl_leaf_terms.specs.Leaves as leaves
+use Rattle.bl_cert_terms.proofs.CertificateLemmas.{cuts_in_turn}
+use Rattle.bl_cert_book.proofs.Steps.{distinct_with, at, all_at, IsBelow, IsClearStep, clear_step, AreDistinct}
+use Rattle.bl_cert_book.proofs.Steps.{place_end, with_old, with_new}
 use Rattle.bl_cert_book.specs.Leaves.{adopt_all, cited_pairs, bounded_leaf, placed_leaf}
 use Rattle.bl_cert_book.proofs.Sorting.{itself, IsOther, AreApart}
 use Rattle.bl_cert_book.proofs.Moves.{moved_alike, moved_itself}
-use Rattle.bl_cert_book.proofs.Steps.{at, all_at, IsBelow, IsClearStep, clear_step, AreDistinct, place_end, with_old}
-use Rattle.bl_cert_book.proofs.Steps.{with_new}
-use Rattle.bl_cert_book.specs.BookCertificates.{OtherCutsStandAlone}
+use Rattle.bl_cert_book.specs.BookCertificates.{OtherCutsStandAlone, NewCutsStandAlone, CutStandsAlone}
 use Rattle.bl_cert_book.proofs.PlacedTrees.{rising_sorted, test_of_rising, leaf_with}
 use Rattle.bl_cert_book.proofs.CutLemmas.{StandsAt, StandAt, cuts_taken}
 use Rattle.bl_cert_book.proofs.Followings.{follow_adopt}
@@ -127,20 +129,124 @@ adopt_itself p (s ∷ steps) done shown distinct =
     ∙ ap (λ (n : ℕ). (let r : Option Adopted =
     Some (record { steps = done ++ s ∷ steps; places = numbers_below n }) in r)) total
 
+-- ---- new cuts
+
+-- steps that are taken over into a list with each step once leave it so
+adopt_distinct : (steps : List CutStep) (a b : Adopted) → AreDistinct a.steps → adopt a steps ≡ Some b
+    → AreDistinct b.steps
+adopt_distinct [] a b distinct e = subst (λ (x : Adopted). AreDistinct x.steps) (some_same a b e) distinct
+adopt_distinct (s ∷ steps) a b distinct e =
+    by (are_in_order (moved_step a.places s).parts.tight)
+    (λ h. adopt_distinct steps (with_adopted a (moved_step a.places s)) b
+    (distinct_with a.steps (moved_step a.places s) distinct) h) e
+  where
+    by : (r : Bool) → (adopt (with_adopted a (moved_step a.places s)) steps ≡ Some b → AreDistinct b.steps)
+        → cond r (adopt (with_adopted a (moved_step a.places s)) steps) None ≡ Some b → AreDistinct b.steps
+    by true rec h = rec h
+    by false rec h = absurd cc
+
+cut_distinct : (c : NoGoodCut) (a b : Adopted) → AreDistinct a.steps → adopt_cut a c ≡ Some b → AreDistinct b.steps
+cut_distinct c a b distinct e = by (adopt (record { steps = a.steps; places = [] }) c.steps) refl e
+  where
+    by : (o : Option Adopted) → adopt (record { steps = a.steps; places = [] }) c.steps ≡ o → noted a.places o ≡ Some b
+        → AreDistinct b.steps
+    by None is h = absurd cc
+    by (Some d) is h =
+        subst (λ (x : Adopted). AreDistinct x.steps)
+        (some_same (record { steps = d.steps; places = a.places ++ last_place d.places ∷ [] }) b h)
+        (adopt_distinct c.steps (record { steps = a.steps; places = [] }) d distinct is)
+
+none_adopted : (tight : List Tight) (k : ℕ) (cuts : List NoGoodCut) (b : Adopted)
+    → adopt_cuts tight k cuts None ≡ Some b → ⊥
+none_adopted tight k cuts b e = cc
+
+cuts_distinct : (tight : List Tight) (k : ℕ) (cuts : List NoGoodCut) (a b : Adopted) → AreDistinct a.steps
+    → adopt_cuts tight k cuts (Some a) ≡ Some b → AreDistinct b.steps
+cuts_distinct tight k [] a b distinct e = subst (λ (x : Adopted). AreDistinct x.steps) (some_same a b e) distinct
+cuts_distinct tight k (c ∷ cuts) a b distinct e =
+    by (is_used k tight) (λ d x h. cuts_distinct tight (suc k) cuts d b x h) e
+  where
+    after : (o : Option Adopted) → adopt_cut a c ≡ o
+        → ((d : Adopted) → AreDistinct d.steps → adopt_cuts tight (suc k) cuts (Some d) ≡ Some b → AreDistinct b.steps)
+        → adopt_cuts tight (suc k) cuts o ≡ Some b → AreDistinct b.steps
+    after None is rec h = absurd (none_adopted tight (suc k) cuts b h)
+    after (Some d) is rec h = rec d (cut_distinct c a d distinct is) h
+
+    by : (r : Bool)
+        → ((d : Adopted) → AreDistinct d.steps → adopt_cuts tight (suc k) cuts (Some d) ≡ Some b → AreDistinct b.steps)
+        → adopt_cuts tight (suc k) cuts
+        (cond r (adopt_cut a c) (Some (record { steps = a.steps; places = a.places ++ 0 ∷ [] }))) ≡ Some b
+        → AreDistinct b.steps
+    by true rec h = after (adopt_cut a c) refl rec h
+    by false rec h = rec (record { steps = a.steps; places = a.places ++ 0 ∷ [] }) distinct h
+
+-- steps behind others are taken over after them
+adopt_append : (steps more : List CutStep) (a b : Adopted) → adopt a steps ≡ Some b
+    → adopt a (steps ++ more) ≡ adopt b more
+adopt_append [] more a b e = ap (λ (x : Adopted). adopt x more) (some_same a b e)
+adopt_append (s ∷ steps) more a b e =
+    by (are_in_order (moved_step a.places s).parts.tight)
+    (λ h. adopt_append steps more (with_adopted a (moved_step a.places s)) b h) e
+  where
+    by : (r : Bool)
+        → (adopt (with_adopted a (moved_step a.places s)) steps ≡ Some b
+        → adopt (with_adopted a (moved_step a.places s)) (steps ++ more) ≡ adopt b more)
+        → cond r (adopt (with_adopted a (moved_step a.places s)) steps) None ≡ Some b
+        → cond r (adopt (with_adopted a (moved_step a.places s)) (steps ++ more)) None ≡ adopt b more
+    by true rec h = rec h
+    by false rec h = absurd cc
+
+-- steps that each stand once, and a last one, are taken over
+last_adopted : (p : Program) (steps : List CutStep) (s : CutStep) → AreCutSteps p [] (steps ++ s ∷ [])
+    → AreDistinct steps
+    → IsSome (adopt (record { steps = []; places = [] }) (steps ++ s ∷ []))
+last_adopted p steps s shown distinct =
+    let parts = (cuts_in_turn p steps (s ∷ [])).0 shown in
+    let n = length steps in
+    let done : Adopted = record { steps = steps; places = numbers_below (0 + n) } in
+    let front = adopt_itself p steps [] parts.0 distinct in
+    let zero_is : 0 + n ≡ n = omega arith in
+    let clear : IsClearStep n s =
+    subst (λ (k : ℕ). IsClearStep k s) (length-map steps local_row) (clear_step p (map local_row steps) s parts.1.0) in
+    let same : moved_step (numbers_below (0 + n)) s ≡ s =
+    ap (λ k. moved_step (numbers_below k) s) zero_is ∙ step_itself n s clear in
+    let ordered : are_in_order (moved_step (numbers_below (0 + n)) s).parts.tight ≡ true =
+    ap (λ (x : CutStep). are_in_order x.parts.tight) same ∙ (Decides-order s.parts.tight).1 clear.order in
+    let is = adopt_append steps (s ∷ []) (record { steps = []; places = [] }) done front
+    ∙ ap (λ r. cond r (Some (with_adopted done (moved_step (numbers_below (0 + n)) s))) None) ordered in
+    subst IsSome (sym is) refl
+
+pub new_cuts_stand_alone : NewCutsStandAlone
+new_cuts_stand_alone p a earlier parts c shown e =
+    by (adopt_cuts parts.tight 0 earlier (Some (record { steps = []; places = [] }))) refl e
+  where
+    noted_some : (o : Option Adopted) → IsSome o → IsSome (noted [] o)
+    noted_some None h = h
+    noted_some (Some d) h = refl
+
+    last : (steps : List CutStep) (s : CutStep) → AreDistinct steps → steps ++ s ∷ [] ≡ c.steps → CutStandsAlone c
+    last steps s distinct is =
+        noted_some (adopt (record { steps = []; places = [] }) c.steps)
+        (subst (λ (x : List CutStep). IsSome (adopt (record { steps = []; places = [] }) x)) is
+        (last_adopted p steps s (subst (AreCutSteps p []) (sym is) shown) distinct))
+
+    own : (b : Adopted) → AreDistinct b.steps → (r : Bool)
+        → cond r (Some (b.steps ++ own_step p a earlier parts b.places ∷ [])) None ≡ Some c.steps → CutStandsAlone c
+    own b distinct true h =
+        last b.steps (own_step p a earlier parts b.places) distinct
+        (some_same (b.steps ++ own_step p a earlier parts b.places ∷ []) c.steps h)
+    own b distinct false h = absurd cc
+
+    by : (o : Option Adopted) → adopt_cuts parts.tight 0 earlier (Some (record { steps = []; places = [] })) ≡ o
+        → with_own p a earlier parts o ≡ Some c.steps → CutStandsAlone c
+    by None is h = absurd cc
+    by (Some b) is h =
+        own b
+        (cuts_distinct parts.tight 0 earlier (record { steps = []; places = [] }) b (λ i j k l m. absurd (omega arith))
+        is)
+        (are_in_order (moved_parts b.places parts).tight) h
+
 -- ---- the cuts of a leaf
-
--- no step of the cut stands twice
-abbrev HasEachOnce : NoGoodCut → Type 0
-HasEachOnce c = AllPairs (λ s t. s ≢ t) c.steps
-
-distinct_from_pairs : (steps : List CutStep) → AllPairs (λ s t. s ≢ t) steps → AreDistinct steps
-distinct_from_pairs steps pairs i j b c e = elim (cases_lt i j) [
-  | inl d ↦ absurd (pairs i j no_step d c e)
-  | inr d ↦ elim (cases_lt j i) [
-    | inl f ↦ absurd (pairs j i no_step f b (sym e))
-    | inr f ↦ omega arith
-  ]
-]
 
 -- a result that is there, in a list with each step once
 record IsThere (o : Option Adopted) : Type 0 where
@@ -148,14 +254,25 @@ record IsThere (o : Option Adopted) : Type 0 where
   is : o ≡ Some result
   distinct : AreDistinct result.steps
 
+-- a cut that alone can be taken over
+record IsAlone (c : NoGoodCut) : Type 0 where
+  result : Adopted
+  is : adopt (record { steps = []; places = [] }) c.steps ≡ Some result
+
+alone_cut : (c : NoGoodCut) → CutStandsAlone c → IsAlone c
+alone_cut c alone = by (adopt (record { steps = []; places = [] }) c.steps) refl alone
+  where
+    by : (o : Option Adopted) → adopt (record { steps = []; places = [] }) c.steps ≡ o → IsSome (noted [] o) → IsAlone c
+    by None is h = absurd (false≢true h)
+    by (Some d) is h = record { result = d; is = is }
+
 cut_there : (p : Program) (area : Area) (c : NoGoodCut) (steps : List CutStep) (places : List ℕ) → IsCutFor p area c
-    → HasEachOnce c → AreDistinct steps → IsThere (adopt_cut (record { steps = steps; places = places }) c)
-cut_there p area c steps places for once distinct =
-    let own = adopt_itself p c.steps [] for.steps (distinct_from_pairs c.steps once) in
+    → CutStandsAlone c → AreDistinct steps → IsThere (adopt_cut (record { steps = steps; places = places }) c)
+cut_there p area c steps places for alone distinct =
+    let own = alone_cut c alone in
     let start : Adopted = record { steps = []; places = [] } in
-    let done : Adopted = record { steps = c.steps; places = numbers_below (0 + length c.steps) } in
     let taken =
-    follow_adopt p c.steps [] start done steps [] for.steps
+    follow_adopt p c.steps [] start own.result steps [] for.steps
     (record { steps = tt; count = refl; placed = λ k l. absurd (omega arith) })
     (record {
       shown = tt;
@@ -164,28 +281,28 @@ cut_there p area c steps places for once distinct =
       same = λ i k. absurd (omega arith);
       apart = λ i j k l m. absurd (omega arith);
       distinct = distinct;
-    }) own in
+    }) own.is in
     record {
       result = record {
         steps = taken.further;
-        places = places ++ last_place (all_at taken.more done.places) ∷ [];
+        places = places ++ last_place (all_at taken.more own.result.places) ∷ [];
       };
       is = ap (noted places) taken.is;
       distinct = taken.follows.distinct;
     }
 
 cuts_there : (p : Program) (area : Area) (cuts : List NoGoodCut) (steps : List CutStep) (places : List ℕ)
-    → All (IsCutFor p area) cuts → All HasEachOnce cuts → AreDistinct steps
+    → All (IsCutFor p area) cuts → All CutStandsAlone cuts → AreDistinct steps
     → IsThere (adopt_all (record { steps = steps; places = places }) cuts)
 cuts_there p area [] steps places are once distinct =
     record { result = record { steps = steps; places = places }; is = refl; distinct = distinct }
 cuts_there p area (c ∷ cuts) steps places are once distinct =
     let one =
-    cut_there p area c steps places (All-head (IsCutFor p area) c cuts are) (All-head HasEachOnce c cuts once)
+    cut_there p area c steps places (All-head (IsCutFor p area) c cuts are) (All-head CutStandsAlone c cuts once)
     distinct in
     let rest =
     cuts_there p area cuts one.result.steps one.result.places (All-tail (IsCutFor p area) c cuts are)
-    (All-tail HasEachOnce c cuts once) one.distinct in
+    (All-tail CutStandsAlone c cuts once) one.distinct in
     record {
       result = rest.result;
       is = ap (option_and_then (λ b. adopt_all b cuts)) one.is ∙ rest.is;

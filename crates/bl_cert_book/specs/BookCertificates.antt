@@ -7,7 +7,9 @@ use Rattle.bl_terms.specs.Bounds.{Multipliers}
 use Rattle.bl_terms.specs.Trees.{BareNode, Leaf, Split}
 use Rattle.bl_model.specs.View.{IsModel}
 use Rattle.bl_fproof.specs.Entries.{Admitted}
-use Rattle.bl_cut_terms.specs.NoGoods.{NoGoodCut, cut_of}
+use Rattle.bl_cut_terms.specs.declared.parts.CutParts.{CutParts}
+use Rattle.bl_cut_terms.specs.NoGoods.{NoGoodCut, AreCutSteps, cut_of}
+use Rattle.bl_cut_proof.specs.Adopting.{adopt_cut, steps_of}
 use Rattle.bl_leaf_terms.specs.Incumbents.{Incumbent}
 use Rattle.bl_leaf_terms.specs.Leaves as leaves
 use Rattle.bl_leaf_terms.specs.Leaves.{ClosedLeaf, IsBounded}
@@ -41,6 +43,10 @@ abbrev pub stated_by : Program → Option Incumbent → Statement
 stated_by p None = Infeasible
 stated_by p (Some f) = Optimal f.point (value_at p f.point)
 
+-- how many rows stand before the cuts' in the problem of a leaf: those of the program, and the value row or its place
+abbrev pub rows_before_cuts : Program → ℕ
+rows_before_cuts p = length p.rows + 1
+
 -- a book's statement and entries, with the cuts and the tree in which its leaves are placed
 abbrev pub certificate_with : Book → PlacedTree → Certificate
 certificate_with b t = record {
@@ -52,13 +58,17 @@ certificate_with b t = record {
 
 -- the certificate of a book. There is none where a leaf cites two cuts that are one, or where a cut uses two such cuts
 abbrev pub certificate_of : Book → Option Certificate
-certificate_of b = option_map (certificate_with b) (placed_tree (length b.program.rows + 1) [] (book_tree b))
+certificate_of b = option_map (certificate_with b) (placed_tree (rows_before_cuts b.program) [] (book_tree b))
 
 -- each leaf of the book alone can be written down: it cites no two cuts that are one, and no cut of it uses two such
 abbrev pub LeavesStandAlone : Book → Type 0
 LeavesStandAlone b =
     (k : ℕ) (leaf : ClosedLeaf) → k < length b.nodes → (node_at b.nodes k).status ≡ Closed leaf
-    → IsSome (placed_leaf (length b.program.rows + 1) [] leaf.evidence)
+    → IsSome (placed_leaf (rows_before_cuts b.program) [] leaf.evidence)
+
+-- a cut alone can be written down: none of its steps uses two cuts that are one
+abbrev pub CutStandsAlone : NoGoodCut → Type 0
+CutStandsAlone c = IsSome (adopt_cut (record { steps = []; places = [] }) c)
 
 -- THE LAWS
 
@@ -74,10 +84,15 @@ FinishedBookHasCertificate =
     (l : Ledger) → IsModel l.book.program → 1 ≤ l.book.limit → IsRun l → IsFinished l.book → LeavesStandAlone l.book
     → IsSome (certificate_of l.book)
 
--- a leaf can, where its cuts differ from each other by box or row, and no cut has a step twice
+-- a leaf can, where its cuts differ from each other by box or row, and each of them alone can be written down
 abbrev pub OtherCutsStandAlone : Type 0
 OtherCutsStandAlone =
     (p : Program) (a : Area) (u : Option ℤ) (w : Multipliers) (cuts : List NoGoodCut) (entry : Option Admitted)
-    → IsBounded p a u w cuts entry → AllPairs (λ c d. cut_of c ≢ cut_of d) cuts
-    → All (λ c. AllPairs (λ s t. s ≢ t) c.steps) cuts
-    → IsSome (placed_leaf (length p.rows + 1) [] (leaves.Bounded w cuts entry))
+    → IsBounded p a u w cuts entry → AllPairs (λ c d. cut_of c ≢ cut_of d) cuts → All CutStandsAlone cuts
+    → IsSome (placed_leaf (rows_before_cuts p) [] (leaves.Bounded w cuts entry))
+
+-- and so can each cut whose steps are those of the cuts that it uses, each once, and its own
+abbrev pub NewCutsStandAlone : Type 0
+NewCutsStandAlone =
+    (p : Program) (a : Area) (earlier : List NoGoodCut) (parts : CutParts) (c : NoGoodCut) → AreCutSteps p [] c.steps
+    → steps_of p a earlier parts ≡ Some c.steps → CutStandsAlone c
