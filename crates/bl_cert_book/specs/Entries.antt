@@ -14,7 +14,7 @@ use Rattle.bl_cert_terms.specs.Certificates.{ProvedEntry}
 abbrev pub proved_entry : Admitted → ProvedEntry
 proved_entry e = record { link = e.link; entry = entry_of e.answered; proof = tree_of e.answered }
 
--- the entries that an incumbent, a leaf and the leaves of a tree use, these in preorder
+-- the entries that an incumbent uses, those of a leaf, and those of the leaves of a tree in preorder
 abbrev pub entries_of_best : Option Incumbent → List Admitted
 entries_of_best best = option_to_list (option_map (λ f. f.entry) best)
 

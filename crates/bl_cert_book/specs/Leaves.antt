@@ -15,7 +15,7 @@ abbrev pub adopt_all : Adopted → List NoGoodCut → Option Adopted
 adopt_all a [] = Some a
 adopt_all a (c ∷ cuts) = option_and_then (λ b. adopt_all b cuts) (adopt_cut a c)
 
--- the pairs in the order of their places
+-- a place with its multiplier, put behind those of lower places; and all pairs in the order of their places
 abbrev pub put_by_place : ℕ × ℤ → List (ℕ × ℤ) → List (ℕ × ℤ)
 put_by_place x [] = x ∷ []
 put_by_place x (y ∷ pairs) = if nat_lt y.0 x.0 then y ∷ put_by_place x pairs else x ∷ y ∷ pairs
@@ -34,14 +34,16 @@ are_rising (k ∷ j ∷ places) = nat_lt k j && are_rising (j ∷ places)
 abbrev pub cited_pairs : ℕ → Multipliers → List ℕ → List (ℕ × ℤ)
 cited_pairs n w places = by_place (zip places (drop n w.mult))
 
+-- the multipliers of n rows, and behind them those of the pairs
 abbrev pub with_pairs : ℕ → Multipliers → List (ℕ × ℤ) → Multipliers
 with_pairs n w pairs = record { den = w.den; mult = take n w.mult ++ map (λ x. x.1) pairs }
 
--- the cuts so far, and what closes a leaf over them; none where the leaf cites two cuts that are one
+-- the cuts so far, and what closes a leaf over them
 pub record PlacedLeaf : Type 0 where
   pub steps : List CutStep
   pub leaf : LeafProof
 
+-- the leaf that cites cuts at the noted places; none where two of them are one
 abbrev pub bounded_leaf : ℕ → Multipliers → Bool → Adopted → Option PlacedLeaf
 bounded_leaf n w uses a =
     if are_rising (map (λ x. x.0) (cited_pairs n w a.places))
@@ -52,19 +54,22 @@ bounded_leaf n w uses a =
     })
     else None
 
+-- a leaf whose cuts are taken over behind the cuts so far
 abbrev pub placed_leaf : ℕ → List CutStep → leaves.Evidence → Option PlacedLeaf
 placed_leaf n steps (leaves.Bounded w cuts entry) =
     option_and_then (bounded_leaf n w (is_some entry)) (adopt_all (record { steps = steps; places = [] }) cuts)
 placed_leaf n steps (leaves.NoAnswer e) = Some (record { steps = steps; leaf = NoAnswer })
 
--- the same of the leaves of a tree, in preorder
+-- the cuts so far, and the nodes of a tree over them
 pub record PlacedTree : Type 0 where
   pub steps : List CutStep
   pub nodes : List (BareNode LeafProof)
 
+-- one more node at the front
 abbrev pub with_node : BareNode LeafProof → PlacedTree → PlacedTree
 with_node n t = record { steps = t.steps; nodes = n ∷ t.nodes }
 
+-- a tree whose leaves are placed one after the other, in preorder
 abbrev pub placed_tree : ℕ → List CutStep → List (BareNode leaves.ClosedLeaf) → Option PlacedTree
 placed_tree n steps [] = Some (record { steps = steps; nodes = [] })
 placed_tree n steps (Split j v s ∷ nodes) = option_map (with_node (Split j v tt)) (placed_tree n steps nodes)
