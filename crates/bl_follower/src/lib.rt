@@ -13,5 +13,6 @@ mod tests;
 mod work;
 
 pub use bl_follower_tree::{Licensed, LicensedNode};
-pub use solve::{FollowerFail, Solved, solve_follower};
+pub use bl_led::Scratch;
+pub use solve::{FollowerFail, Solved, solve_follower, solve_follower_with};
 pub use spent::Spent;

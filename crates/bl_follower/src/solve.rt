@@ -11,6 +11,7 @@ use crate::search::search;
 use crate::spent::Spent;
 use bl_follower_tree::{GrowingTree, Licensed};
 use bl_fproof::{Answered, FollowerProof, FollowerRows};
+use bl_led::Scratch;
 use bl_model::Bilevel;
 use bl_raw::Listed;
 use std::alloc::{AllocError, Global};
@@ -63,7 +64,31 @@ fn answer_of(tree: GrowingTree, best: Option<Response>) -> Solved
 }
 
 /// Finds what the follower answers to the link, in a tree of at most `budget` nodes. Where as many nodes as twice the
-/// points of his box but one may be taken, the budget is never spent.
+/// points of his box but one may be taken, the budget is never spent. The scratch is room for relaxations and counts for
+/// nothing.
+pub fn solve_follower_with(
+    alloc: Global,
+    model: Arc<Bilevel, Global>,
+    link: &[i64],
+    budget: u32,
+    scratch: &mut Scratch,
+) -> Result<Solved, FollowerFail>
+    requires link { IsLink (arc_value model) link.now }
+    requires budget { 1 ≤ budget }
+    ensures ok { IfOk result (IsSolved (arc_value model) link.now budget) }
+    ensures err { IfErr result (IsFailure (arc_value model) link.now budget) }
+{
+    let rows = FollowerRows::make(alloc, &model, link)?;
+    let (tree, best) = search(alloc, &rows, budget, scratch)?;
+    if !tree.is_left() {
+        return Ok(answer_of(tree, best));
+    }
+    let link = Vec::from_slice(alloc, link)?;
+    let (tree, cutoffs, _) = tree.into_parts();
+    Err(FollowerFail::Spent(Spent::make(model, link, budget, tree, cutoffs)))
+}
+
+/// The same with a scratch of its own.
 pub fn solve_follower(
     alloc: Global,
     model: Arc<Bilevel, Global>,
@@ -75,12 +100,6 @@ pub fn solve_follower(
     ensures ok { IfOk result (IsSolved (arc_value model) link.now budget) }
     ensures err { IfErr result (IsFailure (arc_value model) link.now budget) }
 {
-    let rows = FollowerRows::make(alloc, &model, link)?;
-    let (tree, best) = search(alloc, &rows, budget)?;
-    if !tree.is_left() {
-        return Ok(answer_of(tree, best));
-    }
-    let link = Vec::from_slice(alloc, link)?;
-    let (tree, cutoffs, _) = tree.into_parts();
-    Err(FollowerFail::Spent(Spent::make(model, link, budget, tree, cutoffs)))
+    let mut scratch = Scratch::new(alloc);
+    solve_follower_with(alloc, model, link, budget, &mut scratch)
 }

@@ -14,10 +14,11 @@ use crate::response::{Response, cutoff, response_at};
 use bl_bound::{Proof, plain_close};
 use bl_follower_tree::GrowingTree;
 use bl_fproof::{FollowerRows, Part};
+use bl_led::{Scratch, relax_led};
 use bl_licence::Why;
 use bl_place::{Place, widest};
 use bl_raw::Listed;
-use bl_relax::{Relaxed, relax};
+use bl_relax::Relaxed;
 use std::alloc::{AllocError, Global};
 
 /// What becomes of a box.
@@ -59,6 +60,7 @@ fn relax_down(
     rows: &FollowerRows,
     part: &Part,
     best: &mut Option<Response>,
+    scratch: &mut Scratch,
 ) -> Result<Worked, AllocError>
     requires part { IsPart rows.now part.now }
     requires best { IsBestSoFar rows.now best.old }
@@ -67,7 +69,7 @@ fn relax_down(
 {
     let problem = rows.problem(alloc, part.lo(), part.hi())?;
     'relaxations: loop {
-        match relax(alloc, &problem, cutoff(best))? {
+        match relax_led(alloc, &problem, cutoff(best), scratch)? {
             Relaxed::Closed(proof) => return Ok(Worked::Shut(proof)),
             Relaxed::Stuck(why) => return Ok(Worked::Stuck(why)),
             Relaxed::Whole(point) => *best = Some(response_at(&problem, point)),
@@ -108,6 +110,7 @@ pub(crate) fn work_on(
     part: Part,
     tree: &mut GrowingTree,
     best: &mut Option<Response>,
+    scratch: &mut Scratch,
 ) -> Result<(), AllocError>
     requires { IsUnderWay rows.now budget best.old tree.old (part ∷ reverse tree.old.stack) }
     ensures { IfOk result (λ _. IsOneMore rows.now budget best.new tree.old tree.new) }
@@ -117,7 +120,7 @@ pub(crate) fn work_on(
         tree.shut(proof)?;
         return Ok(());
     };
-    match relax_down(alloc, rows, &part, best)? {
+    match relax_down(alloc, rows, &part, best, scratch)? {
         Worked::Shut(proof) => tree.shut(proof)?,
         Worked::Stuck(why) => {
             let place = place_by(rows, &part, &why, widest);

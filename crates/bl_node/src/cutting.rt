@@ -14,12 +14,14 @@ use crate::cuts::{NodeCuts, attempt, is_taken_away};
 use crate::found::{cutoff, share};
 use crate::judgement::judge;
 use crate::nodes::WorkFail;
+use crate::scratch::Scratches;
 use bl_bound::Proof;
 use bl_cut::{Cuts, Tight};
 use bl_cut_proof::is_usable;
+use bl_led::{Scratch, relax_led};
 use bl_licence::Why;
 use bl_raw::Listed;
-use bl_relax::{Relaxed, relax};
+use bl_relax::Relaxed;
 use bl_source::Source;
 use bl_tree::{Incumbent, Leaf, LeafFail, ProvedLeaf, Task, leaf_problem, prove_leaf};
 use std::alloc::{AllocError, Global};
@@ -130,6 +132,7 @@ fn relaxed_with_cuts(
     alloc: Global,
     task: &Task,
     cuts: &Cuts,
+    scratch: &mut Scratch,
     found: &Option<Arc<Incumbent, Global>>,
 ) -> Result<Outcome, AllocError>
     requires { IsSoundJob (job_of task.now) }
@@ -138,7 +141,7 @@ fn relaxed_with_cuts(
     let cuts = usable_cuts(alloc, task, cuts)?;
     let zeros = vec![in alloc; 0i64; task.model.lo().len()]?;
     let problem = leaf_problem(alloc, &task.model, &task.area, None, &zeros, &cuts)?;
-    match relax(alloc, &problem, cutoff(task, found))? {
+    match relax_led(alloc, &problem, cutoff(task, found), scratch)? {
         Relaxed::Closed(proof) => closed_with_cuts(alloc, task, found, proof, &cuts),
         Relaxed::Whole(point) => Ok(Outcome::Whole(point)),
         Relaxed::Stuck(_) => Ok(Outcome::Open),
@@ -152,6 +155,7 @@ fn relax_cut<S: Source>(
     task: &Task,
     pool: &mut S,
     budget: u32,
+    scratches: &mut Scratches,
     found: &mut Option<Arc<Incumbent, Global>>,
     cuts: &mut NodeCuts,
 ) -> Result<Option<ProvedLeaf>, WorkFail>
@@ -168,12 +172,14 @@ fn relax_cut<S: Source>(
     ensures keeps { KeepsEntries (S.held pool.old) (S.held pool.new) }
 {
     'relaxations: loop {
-        let point = match relaxed_with_cuts(alloc, task, &cuts.all, found)? {
+        let point = match relaxed_with_cuts(alloc, task, &cuts.all, &mut scratches.cut, found)? {
             Outcome::Closed(leaf) => return Ok(Some(leaf)),
             Outcome::Open => return Ok(None),
             Outcome::Whole(point) => point,
         };
-        let Some(response) = judge(alloc, task, point.as_slice(), pool, budget, found)? else {
+        let follower = &mut scratches.follower;
+        let Some(response) = judge(alloc, task, point.as_slice(), pool, budget, follower, found)?
+        else {
             return Ok(None);
         };
         if !attempt(alloc, task, cuts, point.as_slice(), response.as_slice())? {
@@ -214,6 +220,7 @@ fn cut_off<S: Source>(
     task: &Task,
     pool: &mut S,
     budget: u32,
+    scratches: &mut Scratches,
     found: &mut Option<Arc<Incumbent, Global>>,
     cuts: &mut NodeCuts,
     point: &[i64],
@@ -236,7 +243,7 @@ fn cut_off<S: Source>(
     if !take_away(alloc, task, cuts, point, response)? {
         return Ok(None);
     }
-    relax_cut(alloc, task, pool, budget, found, cuts)
+    relax_cut(alloc, task, pool, budget, scratches, found, cuts)
 }
 
 /// Closes the box by cuts, if they can, where its licence is a better response.
@@ -245,6 +252,7 @@ pub(crate) fn cut_licensed<S: Source>(
     task: &Task,
     pool: &mut S,
     budget: u32,
+    scratches: &mut Scratches,
     found: &mut Option<Arc<Incumbent, Global>>,
     cuts: &mut NodeCuts,
     why: &Why,
@@ -267,7 +275,9 @@ pub(crate) fn cut_licensed<S: Source>(
     match why {
         Why::Better { point, response } => {
             let (point, response) = (point.as_slice(), response.as_slice());
-            let leaf = cut_off(alloc, task, pool, budget, found, cuts, point, response)?;
+            let leaf = cut_off(
+                alloc, task, pool, budget, scratches, found, cuts, point, response,
+            )?;
             Ok(leaf)
         }
         _ => Ok(None),

@@ -10,8 +10,9 @@ ghost use Rattle.bl_node.specs.Works.{IsSoundJob, job_of};
 ghost use Rattle.bl_node.specs.Standing.{best_of, cutoff_with, IsFound, IsFoundAfter, IsSmallValue};
 
 use bl_bound::{Proof, plain_close};
+use bl_led::{Scratch, relax_led};
 use bl_pool::Kept;
-use bl_relax::{Relaxed, relax};
+use bl_relax::Relaxed;
 use bl_tree::{Incumbent, Task, cutoff_by, plain_problem};
 use std::alloc::{AllocError, Global};
 use std::sync::Arc;
@@ -113,6 +114,7 @@ pub(crate) fn relaxed(
     task: &Task,
     value: Option<i64>,
     found: &Option<Arc<Incumbent, Global>>,
+    scratch: &mut Scratch,
 ) -> Result<Relaxed, AllocError>
     requires job { IsSoundJob (job_of task.now) }
     requires value { IsSmallValue value }
@@ -121,7 +123,7 @@ pub(crate) fn relaxed(
         (cutoff_with (job_of task.now) (option_map arc_value found.now))) }
 {
     let problem = plain_problem(alloc, &task.model, &task.area, value)?;
-    let relaxed = relax(alloc, &problem, cutoff(task, found))?;
+    let relaxed = relax_led(alloc, &problem, cutoff(task, found), scratch)?;
     Ok(relaxed)
 }
 

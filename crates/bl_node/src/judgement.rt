@@ -12,6 +12,7 @@ ghost use Rattle.bl_node.specs.Standing.{IsFound, IsFoundAfter, IsJudged, cutoff
 use crate::found::{cutoff, enter, is_below, take};
 use crate::nodes::WorkFail;
 use bl_fproof::Answered;
+use bl_led::Scratch;
 use bl_model::{Bilevel, Listed};
 use bl_pool::Kept;
 use bl_source::{Source, entry_for};
@@ -108,6 +109,7 @@ pub(crate) fn judge<S: Source>(
     point: &[i64],
     pool: &mut S,
     budget: u32,
+    scratch: &mut Scratch,
     found: &mut Option<Arc<Incumbent, Global>>,
 ) -> Result<Option<Listed<i64>>, WorkFail>
     requires job { IsSoundJob (job_of task.now) }
@@ -124,6 +126,6 @@ pub(crate) fn judge<S: Source>(
     ensures keeps { KeepsEntries (S.held pool.old) (S.held pool.new) }
 {
     let link = task.model.link_of(alloc, point)?;
-    let kept = entry_for(alloc, &task.model, &link, pool, budget)?;
+    let kept = entry_for(alloc, &task.model, &link, pool, budget, scratch)?;
     Ok(judge_by(alloc, task, point, &kept, found)?)
 }

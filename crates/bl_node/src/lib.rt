@@ -15,8 +15,10 @@ mod leaves;
 mod nodes;
 mod relaxation;
 mod rounds;
+mod scratch;
 #[cfg(test)]
 mod tests;
 
 pub use bl_source::{KeepFail, Source};
-pub use nodes::{WorkFail, Worked, work};
+pub use nodes::{WorkFail, Worked, work, work_with};
+pub use scratch::Scratches;

@@ -13,6 +13,7 @@ use crate::division::divide;
 use crate::leaves::{closed_with_value, closed_without_answer};
 use crate::relaxation::{Relaxation, relax_fixed};
 use crate::rounds::{Round, cut_round};
+use crate::scratch::Scratches;
 use bl_cut::Cuts;
 use bl_follower::{FollowerFail, Spent};
 use bl_model::Halves;
@@ -82,6 +83,7 @@ fn work_fixed<S: Source>(
     task: &Task,
     pool: &mut S,
     follower_nodes: u32,
+    scratches: &mut Scratches,
 ) -> Result<Worked, WorkFail>
     requires job { IsSoundJob (job_of task.now) }
     requires fixes { Fixes (job_of task.now).area (job_of task.now).program.links }
@@ -91,13 +93,20 @@ fn work_fixed<S: Source>(
     ensures keeps { KeepsEntries (S.held pool.old) (S.held pool.new) }
 {
     let link = link_at(alloc, task)?;
-    let kept = entry_for(alloc, &task.model, &link, pool, follower_nodes)?;
+    let kept = entry_for(
+        alloc,
+        &task.model,
+        &link,
+        pool,
+        follower_nodes,
+        &mut scratches.follower,
+    )?;
     let mut found = None;
     let Some(value) = value_at(&task.model, &task.area, Some(&kept)) else {
         let leaf = closed_without_answer(task, &found, kept)?;
         return Ok(Worked::Close { leaf, found });
     };
-    match relax_fixed(alloc, task, &kept, value, &mut found)? {
+    match relax_fixed(alloc, task, &kept, value, &mut scratches.plain, &mut found)? {
         Relaxation::Closed(proof) => {
             let leaf = closed_with_value(alloc, task, &found, proof, kept, value)?;
             Ok(Worked::Close { leaf, found })
@@ -115,6 +124,7 @@ fn work_free<S: Source>(
     task: &Task,
     pool: &mut S,
     follower_nodes: u32,
+    scratches: &mut Scratches,
 ) -> Result<Worked, WorkFail>
     requires job { IsSoundJob (job_of task.now) }
     requires free { ¬ Fixes (job_of task.now).area (job_of task.now).program.links }
@@ -126,7 +136,15 @@ fn work_free<S: Source>(
     let mut found = None;
     let mut cuts = NodeCuts::inherited(alloc, task)?;
     'rounds: loop {
-        match cut_round(alloc, task, pool, follower_nodes, &mut found, &mut cuts)? {
+        match cut_round(
+            alloc,
+            task,
+            pool,
+            follower_nodes,
+            scratches,
+            &mut found,
+            &mut cuts,
+        )? {
             Round::Closed(leaf) => return Ok(Worked::Close { leaf, found }),
             Round::Stuck(why) => return Ok(divide(alloc, task, found, why, None, cuts)?),
             Round::Fell => {}
@@ -135,7 +153,30 @@ fn work_free<S: Source>(
 }
 
 /// Works on a node: its box is closed by a leaf or divided with a licence. A box of one point is always closed. The
-/// follower's solver may take `follower_nodes` nodes at each link. The entries that it finds are kept in the pool.
+/// follower's solver may take `follower_nodes` nodes at each link. The entries that it finds are kept in the pool. The
+/// scratches are room for relaxations.
+pub fn work_with<S: Source>(
+    alloc: Global,
+    task: &Task,
+    pool: &mut S,
+    follower_nodes: u32,
+    scratches: &mut Scratches,
+) -> Result<Worked, WorkFail>
+    requires job { IsJob (job_of task.now) }
+    requires budget { 1 ≤ follower_nodes }
+    ensures ok { IfOk result (IsWorked (job_of task.now)) }
+    ensures err { IfErr result (IsWorkFailure (job_of task.now) follower_nodes) }
+    ensures keeps { KeepsEntries (S.held pool.old) (S.held pool.new) }
+{
+    let _lo = task.area.lo();
+    if task.area.fixes(task.model.links()) {
+        work_fixed(alloc, task, pool, follower_nodes, scratches)
+    } else {
+        work_free(alloc, task, pool, follower_nodes, scratches)
+    }
+}
+
+/// The same with scratches of its own.
 pub fn work<S: Source>(
     alloc: Global,
     task: &Task,
@@ -148,10 +189,6 @@ pub fn work<S: Source>(
     ensures err { IfErr result (IsWorkFailure (job_of task.now) follower_nodes) }
     ensures keeps { KeepsEntries (S.held pool.old) (S.held pool.new) }
 {
-    let _lo = task.area.lo();
-    if task.area.fixes(task.model.links()) {
-        work_fixed(alloc, task, pool, follower_nodes)
-    } else {
-        work_free(alloc, task, pool, follower_nodes)
-    }
+    let mut scratches = Scratches::new(alloc);
+    work_with(alloc, task, pool, follower_nodes, &mut scratches)
 }

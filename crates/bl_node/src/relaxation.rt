@@ -12,7 +12,9 @@ ghost use Rattle.bl_node.specs.Standing.{IsSmallValue};
 use crate::found::{plainly_closed, relaxed, take};
 use crate::judgement::judge;
 use crate::nodes::WorkFail;
+use crate::scratch::Scratches;
 use bl_bound::Proof;
+use bl_led::Scratch;
 use bl_licence::Why;
 use bl_pool::Kept;
 use bl_relax::Relaxed;
@@ -63,6 +65,7 @@ fn relax_down(
     task: &Task,
     kept: &Kept,
     value: i64,
+    scratch: &mut Scratch,
     found: &mut Option<Arc<Incumbent, Global>>,
 ) -> Result<Relaxation, AllocError>
     requires job { IsSoundJob (job_of task.now) }
@@ -76,7 +79,7 @@ fn relax_down(
         (IsRelaxedWith (job_of task.now) (Some value) (option_map arc_value found.new)) }
 {
     'relaxations: loop {
-        match relaxed(alloc, task, Some(value), found)? {
+        match relaxed(alloc, task, Some(value), found, scratch)? {
             Relaxed::Closed(proof) => return Ok(Relaxation::Closed(proof)),
             Relaxed::Stuck(why) => return Ok(Relaxation::Stuck(why)),
             Relaxed::Whole(point) => take(alloc, task, point.into_vec(), kept.copy()?, found)?,
@@ -90,6 +93,7 @@ pub(crate) fn relax_fixed(
     task: &Task,
     kept: &Kept,
     value: i64,
+    scratch: &mut Scratch,
     found: &mut Option<Arc<Incumbent, Global>>,
 ) -> Result<Relaxation, AllocError>
     requires job { IsSoundJob (job_of task.now) }
@@ -105,7 +109,7 @@ pub(crate) fn relax_fixed(
         let proof = close_point(alloc, task, kept, value, found)?;
         return Ok(Relaxation::Closed(proof));
     }
-    relax_down(alloc, task, kept, value, found)
+    relax_down(alloc, task, kept, value, scratch, found)
 }
 
 /// Relaxes a box that leaves a linking column free until it is closed or stuck, or a whole point below the cutoff has a
@@ -115,6 +119,7 @@ pub(crate) fn relax_free<S: Source>(
     task: &Task,
     pool: &mut S,
     budget: u32,
+    scratches: &mut Scratches,
     found: &mut Option<Arc<Incumbent, Global>>,
 ) -> Result<Relaxation, WorkFail>
     requires job { IsSoundJob (job_of task.now) }
@@ -127,11 +132,20 @@ pub(crate) fn relax_free<S: Source>(
     ensures keeps { KeepsEntries (S.held pool.old) (S.held pool.new) }
 {
     'relaxations: loop {
-        match relaxed(alloc, task, None, found)? {
+        match relaxed(alloc, task, None, found, &mut scratches.plain)? {
             Relaxed::Closed(proof) => return Ok(Relaxation::Closed(proof)),
             Relaxed::Stuck(why) => return Ok(Relaxation::Stuck(why)),
             Relaxed::Whole(point) => {
-                if let Some(response) = judge(alloc, task, point.as_slice(), pool, budget, found)? {
+                let follower = &mut scratches.follower;
+                if let Some(response) = judge(
+                    alloc,
+                    task,
+                    point.as_slice(),
+                    pool,
+                    budget,
+                    follower,
+                    found,
+                )? {
                     return Ok(Relaxation::Stuck(Why::Better { point, response }));
                 }
             }

@@ -13,6 +13,7 @@ use crate::found::cutoff;
 use crate::leaves::closed_plainly;
 use crate::nodes::WorkFail;
 use crate::relaxation::{Relaxation, relax_free};
+use crate::scratch::Scratches;
 use bl_licence::Why;
 use bl_source::Source;
 use bl_tree::{Incumbent, ProvedLeaf, Task};
@@ -46,6 +47,7 @@ fn after_licence<S: Source>(
     task: &Task,
     pool: &mut S,
     budget: u32,
+    scratches: &mut Scratches,
     found: &mut Option<Arc<Incumbent, Global>>,
     cuts: &mut NodeCuts,
     why: Why,
@@ -65,7 +67,7 @@ fn after_licence<S: Source>(
     ensures keeps { KeepsEntries (S.held pool.old) (S.held pool.new) }
 {
     let before = cutoff(task, found);
-    if let Some(leaf) = cut_licensed(alloc, task, pool, budget, found, cuts, &why)? {
+    if let Some(leaf) = cut_licensed(alloc, task, pool, budget, scratches, found, cuts, &why)? {
         return Ok(Round::Closed(leaf));
     }
     if !is_same_cutoff(before, cutoff(task, found)) {
@@ -80,6 +82,7 @@ pub(crate) fn cut_round<S: Source>(
     task: &Task,
     pool: &mut S,
     budget: u32,
+    scratches: &mut Scratches,
     found: &mut Option<Arc<Incumbent, Global>>,
     cuts: &mut NodeCuts,
 ) -> Result<Round, WorkFail>
@@ -95,13 +98,13 @@ pub(crate) fn cut_round<S: Source>(
     ensures err { IfErr result (IsWorkFailure (job_of task.now) budget) }
     ensures keeps { KeepsEntries (S.held pool.old) (S.held pool.new) }
 {
-    match relax_free(alloc, task, pool, budget, found)? {
+    match relax_free(alloc, task, pool, budget, scratches, found)? {
         Relaxation::Closed(proof) => {
             let leaf = closed_plainly(alloc, task, found, proof)?;
             Ok(Round::Closed(leaf))
         }
         Relaxation::Stuck(why) => {
-            let round = after_licence(alloc, task, pool, budget, found, cuts, why)?;
+            let round = after_licence(alloc, task, pool, budget, scratches, found, cuts, why)?;
             Ok(round)
         }
     }

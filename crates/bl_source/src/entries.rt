@@ -8,7 +8,7 @@ ghost use Rattle.bl_leaf_terms.specs.Incumbents.{IsEntryFor};
 ghost use Rattle.bl_source.specs.Sources.{KeepsEntries};
 
 use crate::source::{KeepFail, Source};
-use bl_follower::{FollowerFail, solve_follower};
+use bl_follower::{FollowerFail, Scratch, solve_follower_with};
 use bl_fproof::Entry;
 use bl_model::Bilevel;
 use bl_pool::{Kept, Pool, PutFail};
@@ -16,13 +16,14 @@ use std::alloc::{AllocError, Global};
 use std::sync::Arc;
 
 /// The entry of a link: what the source has of it, else what the follower's solver finds, which is then kept. The
-/// solver may take `budget` nodes.
+/// solver may take `budget` nodes; the scratch is room for its relaxations.
 pub fn entry_for<S: Source>(
     alloc: Global,
     model: &Arc<Bilevel, Global>,
     link: &[i64],
     pool: &mut S,
     budget: u32,
+    scratch: &mut Scratch,
 ) -> Result<Kept, FollowerFail>
     requires link { IsLink (arc_value model.now) link.now }
     requires budget { 1 ≤ budget }
@@ -33,7 +34,7 @@ pub fn entry_for<S: Source>(
     if let Some(kept) = pool.look(alloc, model, link)? {
         return Ok(kept);
     }
-    let entry = solved(alloc, model, link, budget)?;
+    let entry = solved(alloc, model, link, budget, scratch)?;
     let kept = keep(alloc, entry, pool)?;
     Ok(kept)
 }
@@ -44,13 +45,14 @@ fn solved(
     model: &Arc<Bilevel, Global>,
     link: &[i64],
     budget: u32,
+    scratch: &mut Scratch,
 ) -> Result<Entry, FollowerFail>
     requires link { IsLink (arc_value model.now) link.now }
     requires budget { 1 ≤ budget }
     ensures entry { IfOk result (IsEntryFor (arc_value model.now) link.now) }
     ensures err { IfErr result (IsFailure (arc_value model.now) link.now budget) }
 {
-    let solved = solve_follower(alloc, model.clone()?, link, budget)?;
+    let solved = solve_follower_with(alloc, model.clone()?, link, budget, scratch)?;
     let model = model.clone()?;
     let link = Vec::from_slice(alloc, link)?;
     let _sense = model.sense();

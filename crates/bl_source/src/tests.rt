@@ -2,6 +2,7 @@
 
 use super::*;
 use bl_examples::half;
+use bl_follower::Scratch;
 use bl_fproof::{Answered, is_link};
 use bl_pool::{Kept, Pool};
 use std::alloc::Global;
@@ -22,9 +23,10 @@ fn what_is_kept_is_found(rt: HostRuntime) -> Result<(), Fail> {
     let alloc = rt.alloc();
     let model = Arc::new(alloc, half(alloc)?)?;
     assert!(rt; is_link(&model, &[]));
+    let mut scratch = Scratch::new(alloc);
     let mut pool = Pool::make(alloc, model.clone()?, 1)?;
     assert!(rt; pool.look(alloc, &model, &[])?.is_none());
-    match entry_for(alloc, &model, &[], &mut pool, 3) {
+    match entry_for(alloc, &model, &[], &mut pool, 3, &mut scratch) {
         Ok(kept) => assert_eq!(rt; value(&kept), Some(3)),
         Err(_) => assert!(rt; false),
     }
@@ -32,6 +34,6 @@ fn what_is_kept_is_found(rt: HostRuntime) -> Result<(), Fail> {
         Some(kept) => assert_eq!(rt; value(&kept), Some(3)),
         None => assert!(rt; false),
     }
-    assert!(rt; entry_for(alloc, &model, &[], &mut pool, 1).is_ok());
+    assert!(rt; entry_for(alloc, &model, &[], &mut pool, 1, &mut scratch).is_ok());
     Ok(())
 }

@@ -10,7 +10,7 @@ use crate::turn::{Turn, take_turn};
 use bl_core::{Book, Ended, Outcome};
 use bl_limits::MAX_POOL_ENTRIES;
 use bl_model::Bilevel;
-use bl_node::Source;
+use bl_node::{Scratches, Source};
 use bl_pool::Pool;
 use bl_tree::State;
 use std::alloc::{AllocError, Global};
@@ -43,11 +43,12 @@ fn search<S: Source>(
     ensures { IfOk result (λ o. IsEnd follower_nodes book.ledger.book o.book.ledger o.end) }
 {
     let mut put_off = Vec::new(alloc);
+    let mut scratches = Scratches::new(alloc);
     'nodes: loop {
         let Some(node) = next_node(&book, &mut put_off) else {
             return Ok(Outcome::make(book, Ended::Done));
         };
-        match take_turn(alloc, &mut book, node, pool, follower_nodes)? {
+        match take_turn(alloc, &mut book, node, pool, follower_nodes, &mut scratches)? {
             Turn::Closed => {}
             Turn::Divided { low, high } => {
                 put_off.push(high)?;

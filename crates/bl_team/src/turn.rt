@@ -7,7 +7,7 @@ ghost use Rattle.bl_team.specs.Turns.{IsDivisionFor};
 use bl_core::{Book, Ended, SplitFail, TaskFail};
 use bl_cut::Cuts;
 use bl_model::Halves;
-use bl_node::{Source, WorkFail, Worked, work};
+use bl_node::{Scratches, Source, WorkFail, Worked, work_with};
 use bl_tree::{ProvedLeaf, ProvedWhy, Task};
 use std::alloc::{AllocError, Global};
 
@@ -92,6 +92,7 @@ pub(crate) fn take_turn<S: Source>(
     node: u32,
     pool: &mut S,
     follower_nodes: u32,
+    scratches: &mut Scratches,
 ) -> Result<Turn, AllocError>
     requires idle { IsIdle book.old.ledger.book }
     requires ready { HasStatus book.old.ledger.book node Ready }
@@ -99,7 +100,7 @@ pub(crate) fn take_turn<S: Source>(
     ensures { IfOk result (λ turn. IsTurn follower_nodes book.old.ledger.book turn book.new.ledger) }
 {
     let task = begin(book, node)?;
-    let worked = work(alloc, &task, pool, follower_nodes);
+    let worked = work_with(alloc, &task, pool, follower_nodes, scratches);
     book.make_room()?;
     match worked {
         Ok(Worked::Close { leaf, .. }) => {

@@ -1,5 +1,12 @@
-use Rattle.bl_node.proofs.Failures.{keeps_more}
+use Rattle.bl_node.specs.Works.{job_of}
+use Rattle.bl_node.proofs.Failures.{keeps_more, one_point_fixes}
 use Rattle.bl_node.proofs.nodes.work_free.Goals as goal
+
+pub divide-requires-clause-several : goal.divide-requires-clause-several
+divide-requires-clause-several g c =
+    let j = job_of c.args.task.now in
+    λ one. c.requires.free
+    (one_point_fixes j.program j.area c.requires.job.model.sound c.requires.job.job.within one)
 
 pub returns-in_err-leaf-clause-keeps : goal.returns-in_err-leaf-clause-keeps
 returns-in_err-leaf-clause-keeps g c =

@@ -7,7 +7,7 @@ use Rattle.bl_fproof.specs.Entries.{whole_problem}
 use Rattle.bl_follower.specs.Search.{IsUnderWay}
 use Rattle.bl_follower.specs.Answers.{IsSolved}
 use Rattle.bl_follower.proofs.Ends.{search_solves}
-use Rattle.bl_follower.proofs.solve.solve_follower.Goals as goal
+use Rattle.bl_follower.proofs.solve.solve_follower_with.Goals as goal
 
 pub returns-then-not-is_left-clause-ok : goal.returns-then-not-is_left-clause-ok
 returns-then-not-is_left-clause-ok c =

@@ -3,7 +3,7 @@ use Rattle.std.specs.Arc.{arc_value}
 use Rattle.bl_terms.specs.Points.{Area, IsWithinArea}
 use Rattle.bl_terms.specs.Programs.{Program, root}
 use Rattle.bl_tree.proofs.Links.{links_there}
-use Rattle.bl_node.proofs.nodes.work.Goals as goal
+use Rattle.bl_node.proofs.nodes.work_with.Goals as goal
 
 pub fixes-requires : goal.fixes-requires
 fixes-requires g c =
