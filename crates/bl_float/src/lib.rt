@@ -6,10 +6,12 @@
 
 mod choice;
 mod dictionary;
+mod fine;
 mod numbers;
 mod simplex;
 mod source;
 #[cfg(test)]
 mod tests;
 
+pub use fine::FINE_UNIT;
 pub use simplex::{End, FloatSimplex};

@@ -3,6 +3,7 @@ ghost use Rattle.std.specs.Prelude.{◌≡◌, length, OnOk};
 
 use crate::choice::{Rule, leaving_row};
 use crate::dictionary::{Dictionary, Leaving};
+use crate::fine::begin_fine;
 use crate::numbers::{at, put, row_of, set_zeros};
 use crate::source::{Source, is_dual_feasible};
 use bl_bound::Problem;
@@ -60,6 +61,7 @@ pub struct FloatSimplex {
     engine: Engine,
     point: Vec<f64>,
     multipliers: Vec<f64>,
+    fine: Vec<i128>,
 }
 
 impl Model for FloatSimplex {
@@ -239,6 +241,7 @@ impl FloatSimplex {
             },
             point: Vec::new(alloc),
             multipliers: Vec::new(alloc),
+            fine: Vec::new(alloc),
         }
     }
 
@@ -286,6 +289,25 @@ impl FloatSimplex {
         ensures { length result.now ≡ self.now.rows }
     {
         &self.multipliers
+    }
+
+    /// Refines the values of the columns, in parts of [`FINE_UNIT`], by the residuals of the rows and ends of ranges
+    /// that the last dictionary meets with equality. It is false where a number is too large for that. The problem is
+    /// the last one that was solved.
+    pub fn refine(&mut self, problem: &Problem<'_>) -> Result<bool, AllocError>
+        ensures { self.new ≡ self.old }
+    {
+        begin_fine(&mut self.fine, &self.point)?;
+        Ok(
+            self.engine
+                .dictionary
+                .refine(problem, &self.engine.source.scales, &mut self.fine),
+        )
+    }
+
+    /// The refined values of the columns.
+    pub fn fine_point(&self) -> &[i128] {
+        &self.fine
     }
 
     /// The cost of the columns' values.

@@ -42,8 +42,6 @@ pub(crate) struct Source {
     costs: Vec<i64>,
     /// For each row the power of 2 that its activity is multiplied by.
     pub(crate) scales: Vec<f64>,
-    /// For each row the sum of its coefficients' magnitudes, once it is asked for.
-    lengths: Vec<f64>,
     /// For each row another one with the opposite coefficients, or the count of rows; once it is asked for.
     opposites: Vec<usize>,
     /// By label: the columns' ranges, then those of the activities.
@@ -69,11 +67,13 @@ fn scale_of(coefs: &[i64]) -> f64 {
     scale
 }
 
-/// The sum of the numbers' magnitudes.
-fn sum_of_magnitudes(numbers: &[i64]) -> f64 {
+/// The sum of a row's magnitudes at the columns that aren't fixed.
+fn length_of(coefs: &[i64], lo: &[i64], hi: &[i64]) -> f64 {
     let mut sum = 0.0;
-    for x in numbers {
-        sum += nearest_i64_to_f64(*x).abs();
+    for ((x, lo), hi) in coefs.iter().zip(lo.iter()).zip(hi.iter()) {
+        if *lo < *hi {
+            sum += nearest_i64_to_f64(*x).abs();
+        }
     }
     sum
 }
@@ -136,7 +136,6 @@ impl Source {
             coefs: Vec::new(alloc),
             costs: Vec::new(alloc),
             scales: Vec::new(alloc),
-            lengths: Vec::new(alloc),
             opposites: Vec::new(alloc),
             ranges: Vec::new(alloc),
             kept: Vec::new(alloc),
@@ -163,7 +162,6 @@ impl Source {
         self.costs.extend_from_slice(problem.cost())?;
         self.coefs.clear();
         self.scales.clear();
-        self.lengths.clear();
         self.opposites.clear();
         for row in problem.rows() {
             self.coefs.extend_from_slice(row.coef())?;
@@ -191,10 +189,10 @@ impl Source {
     }
 
     /// Lowers the upper end of each activity, but for those of equations, by half a unit times the sum of the row's
-    /// magnitudes.
+    /// magnitudes at the columns that aren't fixed.
     pub(crate) fn tighten(&mut self, problem: &Problem<'_>, unit: f64) -> Result<(), AllocError> {
-        if self.lengths.len() != self.scales.len() {
-            self.measure_rows(problem)?;
+        if self.opposites.len() != self.scales.len() {
+            self.find_opposites(problem)?;
         }
         let columns = self.costs.len();
         let rows = problem.rows();
@@ -205,7 +203,8 @@ impl Source {
                 None => false,
             };
             if !is_equation {
-                let margin = 0.5 * unit * at(&self.lengths, i) * at(&self.scales, i);
+                let length = length_of(row.coef(), problem.lo(), problem.hi());
+                let margin = 0.5 * unit * length * at(&self.scales, i);
                 if let Some(range) = self.ranges.get_mut(columns.saturating_add(i)) {
                     range.high -= margin;
                 }
@@ -214,12 +213,10 @@ impl Source {
         Ok(())
     }
 
-    /// Computes the sum of each row's magnitudes, and finds its opposite.
-    fn measure_rows(&mut self, problem: &Problem<'_>) -> Result<(), AllocError> {
-        self.lengths.clear();
+    /// Finds each row's opposite.
+    fn find_opposites(&mut self, problem: &Problem<'_>) -> Result<(), AllocError> {
         self.opposites.clear();
         for row in problem.rows() {
-            self.lengths.push(sum_of_magnitudes(row.coef()))?;
             self.opposites.push(opposite_of(problem, row.coef()))?;
         }
         Ok(())

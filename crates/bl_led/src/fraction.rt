@@ -4,6 +4,7 @@ ghost use Rattle.bl_terms.specs.Bounds.{Fits};
 ghost use Rattle.bl_relax.specs.Relaxed.{IsRelaxed};
 
 use bl_bound::Problem;
+use bl_float::FINE_UNIT;
 use bl_frac::{Frac, reduced};
 use bl_licence::{Why, why_holds};
 use bl_raw::Listed;
@@ -14,8 +15,13 @@ use std::num::{nearest_i64_to_f64, saturating_f64_to_i64};
 /// How far a fraction may be from the number that it stands for.
 const TOLERANCE: f64 = 1e-9;
 
-/// The greatest denominator that is tried: `2^24`.
-const MAX_DENOMINATOR: f64 = 16_777_216.0;
+/// The greatest denominator that is tried.
+const MAX_DENOMINATOR: f64 = 4096.0;
+
+/// The same of a refined number: how many parts of its unit, and the denominator, `2^24`.
+const FINE_TOLERANCE: i128 = 1024;
+
+const MAX_FINE_DENOMINATOR: i128 = 1 << 24;
 
 /// The most steps of a continued fraction.
 const MAX_STEPS: u32 = 40;
@@ -69,6 +75,63 @@ fn simplest_fraction(number: f64) -> Option<Frac> {
     let num = saturating_f64_to_i64(ratio.num);
     let den = saturating_f64_to_i64(ratio.den);
     reduced(i128::from(num), i128::from(den))
+}
+
+/// The first convergent of the continued fraction of a number of parts of [`FINE_UNIT`], not below 0, that is near it.
+fn fine_fraction(parts: i128) -> Option<Frac> {
+    let (mut num_before, mut den_before) = (1i128, 0i128);
+    let (mut num, mut den) = (parts.div_euclid(FINE_UNIT), 1i128);
+    let (mut whole, mut rest) = (FINE_UNIT, parts.rem_euclid(FINE_UNIT));
+    for _ in 0..MAX_STEPS {
+        let error = parts
+            .checked_mul(den)?
+            .checked_sub(num.checked_mul(FINE_UNIT)?)?;
+        if error.checked_abs()? <= FINE_TOLERANCE.checked_mul(den)? {
+            return reduced(num, den);
+        }
+        let part = whole.checked_div(rest)?;
+        (whole, rest) = (rest, whole.checked_rem(rest)?);
+        (num_before, num) = (num, part.checked_mul(num)?.checked_add(num_before)?);
+        (den_before, den) = (den, part.checked_mul(den)?.checked_add(den_before)?);
+        if den > MAX_FINE_DENOMINATOR {
+            return None;
+        }
+    }
+    None
+}
+
+/// How many parts of [`FINE_UNIT`] a column is from its start, at least 0.
+fn fine_distance(cost: i64, lo: i64, hi: i64, column: i128) -> i128 {
+    let start = if cost < 0 { hi } else { lo };
+    let moved = column.saturating_sub(i128::from(start).saturating_mul(FINE_UNIT));
+    let distance = if cost < 0 {
+        moved.saturating_neg()
+    } else {
+        moved
+    };
+    distance.max(0)
+}
+
+/// The distances of the columns from their starts as the simplest fractions near them, if each has one.
+fn fine_fractions(
+    alloc: Global,
+    problem: &Problem<'_>,
+    point: &[i128],
+) -> Result<Option<Vec<Frac>>, AllocError> {
+    let mut distances = Vec::with_capacity(alloc, point.len())?;
+    for (((cost, lo), hi), column) in problem
+        .cost()
+        .iter()
+        .zip(problem.lo().iter())
+        .zip(problem.hi().iter())
+        .zip(point.iter())
+    {
+        let Some(fraction) = fine_fraction(fine_distance(*cost, *lo, *hi, *column)) else {
+            return Ok(None);
+        };
+        distances.push(fraction)?;
+    }
+    Ok(Some(distances))
 }
 
 /// The fraction of a grid that is nearest to a number that isn't below 0.
@@ -170,6 +233,22 @@ pub(crate) fn licence_on(
     ensures { IfOk result (λ o. IfSome o (IsRelaxed problem.now cutoff)) }
 {
     let Some(distances) = fractions_of(alloc, problem, point, Form::On(grid))? else {
+        return Ok(None);
+    };
+    shown_licence(alloc, problem, cutoff, distances)
+}
+
+/// The licence of the simplest fractions near a refined point, if it holds.
+pub(crate) fn fine_licence(
+    alloc: Global,
+    problem: &Problem<'_>,
+    cutoff: Option<i64>,
+    point: &[i128],
+) -> Result<Option<Relaxed>, AllocError>
+    requires { Fits problem.now }
+    ensures { IfOk result (λ o. IfSome o (IsRelaxed problem.now cutoff)) }
+{
+    let Some(distances) = fine_fractions(alloc, problem, point)? else {
         return Ok(None);
     };
     shown_licence(alloc, problem, cutoff, distances)

@@ -4,7 +4,7 @@ ghost use Rattle.bl_terms.specs.Bounds.{Fits};
 ghost use Rattle.bl_relax.specs.Relaxed.{IsRelaxed};
 
 use crate::closing::{cutoff_proof, empty_proof};
-use crate::fraction::{Grid, licence_on, simplest_licence};
+use crate::fraction::{Grid, fine_licence, licence_on, simplest_licence};
 use crate::repair::Repair;
 use crate::rounding::whole_near;
 use bl_bound::Problem;
@@ -95,7 +95,28 @@ fn at_optimum(
     if stuck.is_some() {
         return Ok(stuck);
     }
-    grid_licence(alloc, problem, cutoff, scratch)
+    let stuck = grid_licence(alloc, problem, cutoff, scratch)?;
+    if stuck.is_some() {
+        return Ok(stuck);
+    }
+    refined_licence(alloc, problem, cutoff, scratch)
+}
+
+/// A licence to split of the vertex itself, where the fractions of its refined point are simple.
+fn refined_licence(
+    alloc: Global,
+    problem: &Problem<'_>,
+    cutoff: Option<i64>,
+    scratch: &mut Scratch,
+) -> Result<Option<Relaxed>, AllocError>
+    requires { Fits problem.now }
+    ensures { IfOk result (λ o. IfSome o (IsRelaxed problem.now cutoff)) }
+{
+    let end = scratch.simplex.solve(problem, cutoff)?;
+    if end == End::Optimal && scratch.simplex.refine(problem)? {
+        return fine_licence(alloc, problem, cutoff, scratch.simplex.fine_point());
+    }
+    Ok(None)
 }
 
 /// A licence to split of a point on a grid: that of least cost so far within the rows that rounding leaves them met.

@@ -6,6 +6,9 @@ use std::num::nearest_i64_to_f64;
 /// How many columns are stepped at most.
 const MAX_STEPS: u32 = 10;
 
+/// How many calls pass at most before the next repair.
+const MAX_WAIT: u32 = 64;
+
 /// A column, and what is added to it.
 #[derive(Clone, Copy, Debug)]
 struct Step {
@@ -26,6 +29,11 @@ pub(crate) struct Repair {
     /// What each row's value at the point is above its right side.
     excesses: Vec<f64>,
     broken: Vec<Broken>,
+    balances: Vec<i64>,
+    /// How many calls pass before the next repair.
+    wait: u32,
+    /// How many calls passed before the last one, twice, or 1 where it succeeded.
+    longest: u32,
 }
 
 /// What the row's value at the point is above its right side.
@@ -52,7 +60,43 @@ impl Repair {
         Repair {
             excesses: Vec::new(alloc),
             broken: Vec::new(alloc),
+            balances: Vec::new(alloc),
+            wait: 0,
+            longest: 1,
         }
+    }
+
+    /// Whether a repair is to be tried at this call.
+    pub(crate) fn is_due(&mut self) -> bool {
+        if self.wait == 0 {
+            return true;
+        }
+        self.wait -= 1;
+        false
+    }
+
+    /// Sets how many calls pass before the next repair: the more the more often it failed.
+    pub(crate) fn note(&mut self, succeeded: bool) {
+        self.longest = if succeeded {
+            1
+        } else {
+            self.longest.saturating_mul(2).min(MAX_WAIT)
+        };
+        self.wait = if succeeded { 0 } else { self.longest };
+    }
+
+    /// For each column how many more rows lose than gain where it rises.
+    pub(crate) fn balances(&mut self, problem: &Problem<'_>) -> Result<&[i64], AllocError> {
+        self.balances.clear();
+        for _ in problem.lo() {
+            self.balances.push(0)?;
+        }
+        for row in problem.rows() {
+            for (balance, coef) in self.balances.iter_mut().zip(row.coef().iter()) {
+                *balance = balance.saturating_add(coef.signum());
+            }
+        }
+        Ok(&self.balances)
     }
 
     fn write_excesses(&mut self, problem: &Problem<'_>, point: &[i64]) -> Result<(), AllocError> {

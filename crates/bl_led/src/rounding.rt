@@ -15,7 +15,7 @@ use std::num::saturating_f64_to_i64;
 const WHOLE_TOLERANCE: f64 = 1e-6;
 
 /// Where a column goes that isn't whole.
-#[derive(Clone, Copy, Debug)]
+#[derive(Clone, Copy, Debug, PartialEq)]
 enum Direction {
     Nearest,
     TowardStart,
@@ -24,53 +24,41 @@ enum Direction {
     AsRowsLike,
 }
 
-/// Whether more rows lose than gain where a column leaves its start.
-fn rows_lose(problem: &Problem<'_>, cost: i64, column: usize) -> bool {
-    let mut balance: i64 = 0;
-    for row in problem.rows() {
-        if let Some(coef) = row.coef().get(column) {
-            balance = balance.saturating_add(coef.signum());
-        }
+/// Whether a column leaves its start, the upper end of its range where its cost is below 0. The balance of the rows is
+/// how many more of them lose than gain where the column rises.
+fn leaves_start(direction: Direction, cost: i64, balance: i64) -> bool {
+    match direction {
+        Direction::TowardStart => false,
+        Direction::Nearest | Direction::FromStart => true,
+        Direction::AsRowsLike if cost < 0 => balance >= 0,
+        Direction::AsRowsLike => balance <= 0,
     }
-    if cost < 0 { balance < 0 } else { balance > 0 }
 }
 
-/// A column, made whole. Its start is the upper end of its range where its cost is below 0.
-fn rounded(
-    problem: &Problem<'_>,
-    cost: i64,
-    column: usize,
-    value: f64,
-    direction: Direction,
-) -> i64 {
+/// A column, made whole.
+fn rounded(value: f64, cost: i64, balance: i64, direction: Direction) -> i64 {
     let nearest = (value + 0.5).floor();
-    if (value - nearest).abs() <= WHOLE_TOLERANCE {
+    let is_whole = (value - nearest).abs() <= WHOLE_TOLERANCE;
+    if is_whole || direction == Direction::Nearest {
         return saturating_f64_to_i64(nearest);
     }
-    let leaves = match direction {
-        Direction::Nearest => return saturating_f64_to_i64(nearest),
-        Direction::TowardStart => false,
-        Direction::FromStart => true,
-        Direction::AsRowsLike => !rows_lose(problem, cost, column),
-    };
     let below = value.floor();
-    saturating_f64_to_i64(if leaves == (cost < 0) {
-        below
-    } else {
-        below + 1.0
-    })
+    let falls = leaves_start(direction, cost, balance) == (cost < 0);
+    saturating_f64_to_i64(if falls { below } else { below + 1.0 })
 }
 
 /// Writes the columns' values, each made whole.
 fn write_rounded(
     problem: &Problem<'_>,
     values: &[f64],
+    balances: &[i64],
     direction: Direction,
     point: &mut Vec<i64>,
 ) -> Result<(), AllocError> {
     point.clear();
     for (column, (value, cost)) in values.iter().zip(problem.cost().iter()).enumerate() {
-        point.push(rounded(problem, *cost, column, *value, direction))?;
+        let balance = balances.get(column).copied().unwrap_or(0);
+        point.push(rounded(*value, *cost, balance, direction))?;
     }
     Ok(())
 }
@@ -92,8 +80,57 @@ fn shown_point(
     Ok(Some(Relaxed::Whole(Listed::new(copy))))
 }
 
+/// The answer of one of the plain roundings of the fractional point, itself where it is whole.
+fn rounding_shown(
+    alloc: Global,
+    problem: &Problem<'_>,
+    cutoff: Option<i64>,
+    values: &[f64],
+    point: &mut Vec<i64>,
+) -> Result<Option<Relaxed>, AllocError>
+    requires { Fits problem.now }
+    ensures { IfOk result (λ o. IfSome o (IsRelaxed problem.now cutoff)) }
+{
+    for direction in [
+        Direction::Nearest,
+        Direction::TowardStart,
+        Direction::FromStart,
+    ] {
+        write_rounded(problem, values, &[], direction, point)?;
+        let shown = shown_point(alloc, problem, cutoff, point)?;
+        if shown.is_some() {
+            return Ok(shown);
+        }
+    }
+    Ok(None)
+}
+
+/// The answer of the rounding that the rows like, or of the nearest one with its rows repaired.
+fn repair_shown(
+    alloc: Global,
+    problem: &Problem<'_>,
+    cutoff: Option<i64>,
+    values: &[f64],
+    point: &mut Vec<i64>,
+    repair: &mut Repair,
+) -> Result<Option<Relaxed>, AllocError>
+    requires { Fits problem.now }
+    ensures { IfOk result (λ o. IfSome o (IsRelaxed problem.now cutoff)) }
+{
+    let balances = repair.balances(problem)?;
+    write_rounded(problem, values, balances, Direction::AsRowsLike, point)?;
+    let shown = shown_point(alloc, problem, cutoff, point)?;
+    if shown.is_some() {
+        return Ok(shown);
+    }
+    write_rounded(problem, values, &[], Direction::Nearest, point)?;
+    repair.repair(problem, point)?;
+    shown_point(alloc, problem, cutoff, point)
+}
+
 /// A whole point near the fractional one that meets the rows below the cutoff: the fractional one itself where it is
-/// whole, else one of its roundings, else one of them with its rows repaired.
+/// whole, else one of its roundings, else one of them with its rows repaired, which is tried less often the more often
+/// it fails.
 pub(crate) fn whole_near(
     alloc: Global,
     problem: &Problem<'_>,
@@ -105,18 +142,11 @@ pub(crate) fn whole_near(
     requires { Fits problem.now }
     ensures { IfOk result (λ o. IfSome o (IsRelaxed problem.now cutoff)) }
 {
-    for direction in [
-        Direction::AsRowsLike,
-        Direction::TowardStart,
-        Direction::FromStart,
-        Direction::Nearest,
-    ] {
-        write_rounded(problem, values, direction, point)?;
-        let shown = shown_point(alloc, problem, cutoff, point)?;
-        if shown.is_some() {
-            return Ok(shown);
-        }
+    let shown = rounding_shown(alloc, problem, cutoff, values, point)?;
+    if shown.is_some() || !repair.is_due() {
+        return Ok(shown);
     }
-    repair.repair(problem, point)?;
-    shown_point(alloc, problem, cutoff, point)
+    let shown = repair_shown(alloc, problem, cutoff, values, point, repair)?;
+    repair.note(shown.is_some());
+    Ok(shown)
 }
