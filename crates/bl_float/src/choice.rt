@@ -7,7 +7,7 @@
 use crate::dictionary::{Basic, Dictionary, LEAST_ENTRY, Leaving, Nonbasic};
 use crate::numbers::{at, put, row_of};
 
-/// How far outside of its range a basic variable counts as outside, and the share of the end of the range that is added.
+/// How far outside of its range a basic variable counts as outside, and the share of the range's end that is added.
 const LEAST_DISTANCE: f64 = 1e-9;
 
 const LEAST_SHARE: f64 = 1e-13;

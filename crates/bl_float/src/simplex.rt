@@ -2,7 +2,7 @@
 ghost use Rattle.std.specs.Prelude.{◌≡◌, length, OnOk};
 
 use crate::choice::{Rule, leaving_row};
-use crate::dictionary::{Dictionary, Leaving};
+use crate::dictionary::{Dictionary, LEAST_ENTRY, Leaving};
 use crate::fine::begin_fine;
 use crate::numbers::{at, put, row_of, set_zeros};
 use crate::source::{Source, is_dual_feasible};
@@ -22,6 +22,9 @@ const PIVOTS_KEPT: u32 = 100;
 
 /// After how many pivots without progress the choices go by the least label.
 const MOST_IDLE: u32 = 40;
+
+/// How often rows are loosened.
+const MOST_LOOSENINGS: u32 = 6;
 
 /// By how much the cost has to pass the greatest one that is sought, and the share of that one that is added.
 const CUTOFF_MARGIN: f64 = 1e-6;
@@ -100,6 +103,49 @@ impl Engine {
         }
         self.source.stand(&mut self.dictionary);
         Ok(())
+    }
+
+    /// Minimises up to a limit. Tightened rows that leave no point are loosened, a few times at most.
+    fn minimise(
+        &mut self,
+        problem: &Problem<'_>,
+        limit: f64,
+        unit: f64,
+    ) -> Result<Stop, AllocError> {
+        let most = most_pivots(problem.rows().len(), problem.lo().len());
+        self.source.tighten_all()?;
+        self.load(problem, unit)?;
+        let mut stop = self.run(limit, most)?;
+        for _ in 0..MOST_LOOSENINGS {
+            let Stop::Infeasible(leaving) = stop else {
+                return Ok(stop);
+            };
+            if !(unit > 0.0) || !self.loosen(leaving) {
+                return Ok(stop);
+            }
+            self.load(problem, unit)?;
+            stop = self.run(limit, most)?;
+        }
+        Ok(stop)
+    }
+
+    /// Makes the rows loose that together leave no point, and answers whether one of them was not.
+    fn loosen(&mut self, leaving: Leaving) -> bool {
+        let mut is_looser = false;
+        let width = self.dictionary.width();
+        if let Some(row) = row_of(&self.dictionary.entries, width, leaving.row) {
+            for (nonbasic, entry) in self.dictionary.nonbasic.iter().zip(row.iter()) {
+                if entry.abs() > LEAST_ENTRY && self.source.loosen(nonbasic.label) {
+                    is_looser = true;
+                }
+            }
+        }
+        if let Some(basic) = self.dictionary.basic.get(leaving.row)
+            && self.source.loosen(basic.label)
+        {
+            is_looser = true;
+        }
+        is_looser
     }
 
     /// Computes the dictionary anew from the problem: of the same basis, or the opening one where that isn't usable.
@@ -254,7 +300,8 @@ impl FloatSimplex {
     }
 
     /// The same where each row but those of equations is tightened by half a unit times the sum of its coefficients'
-    /// magnitudes: then a point that meets the rows may be rounded to multiples of the unit, and still does.
+    /// magnitudes at columns that aren't fixed: then a point that meets the rows may be rounded to multiples of the
+    /// unit, and still does. Rows that leave no point when they are tightened are left as they are.
     pub fn solve_inside(
         &mut self,
         problem: &Problem<'_>,
@@ -268,10 +315,7 @@ impl FloatSimplex {
         let columns = problem.lo().len();
         set_zeros(&mut self.point, columns)?;
         set_zeros(&mut self.multipliers, rows)?;
-        self.engine.load(problem, unit)?;
-        let stop = self
-            .engine
-            .run(limit_of(cutoff), most_pivots(rows, columns))?;
+        let stop = self.engine.minimise(problem, limit_of(cutoff), unit)?;
         self.engine.write_point(&mut self.point);
         self.engine.write_multipliers(stop, &mut self.multipliers);
         Ok(self.engine.end_of(stop, &self.multipliers))

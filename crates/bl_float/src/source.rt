@@ -44,6 +44,8 @@ pub(crate) struct Source {
     pub(crate) scales: Vec<f64>,
     /// For each row another one with the opposite coefficients, or the count of rows; once it is asked for.
     opposites: Vec<usize>,
+    /// For each row whether it is left as it is where rows are tightened.
+    loose: Vec<bool>,
     /// By label: the columns' ranges, then those of the activities.
     pub(crate) ranges: Vec<Range>,
     /// By label: whether the variable is to be basic in a dictionary that is restored.
@@ -137,6 +139,7 @@ impl Source {
             costs: Vec::new(alloc),
             scales: Vec::new(alloc),
             opposites: Vec::new(alloc),
+            loose: Vec::new(alloc),
             ranges: Vec::new(alloc),
             kept: Vec::new(alloc),
         }
@@ -189,7 +192,7 @@ impl Source {
     }
 
     /// Lowers the upper end of each activity, but for those of equations, by half a unit times the sum of the row's
-    /// magnitudes at the columns that aren't fixed.
+    /// magnitudes at the columns that aren't fixed. Loose rows are left as they are.
     pub(crate) fn tighten(&mut self, problem: &Problem<'_>, unit: f64) -> Result<(), AllocError> {
         if self.opposites.len() != self.scales.len() {
             self.find_opposites(problem)?;
@@ -202,7 +205,7 @@ impl Source {
                 Some(other) => row.rhs().checked_add(other.rhs()) == Some(0),
                 None => false,
             };
-            if !is_equation {
+            if !is_equation && !is_set(&self.loose, i) {
                 let length = length_of(row.coef(), problem.lo(), problem.hi());
                 let margin = 0.5 * unit * length * at(&self.scales, i);
                 if let Some(range) = self.ranges.get_mut(columns.saturating_add(i)) {
@@ -276,7 +279,7 @@ impl Source {
         self.keep_basis(dictionary)?;
         self.open(dictionary)?;
         for column in 0..self.costs.len() {
-            if is_kept(&self.kept, column) {
+            if is_set(&self.kept, column) {
                 self.enter(dictionary, column);
             }
         }
@@ -289,16 +292,25 @@ impl Source {
 
     /// Writes down which variables are basic.
     fn keep_basis(&mut self, dictionary: &Dictionary) -> Result<(), AllocError> {
-        self.kept.clear();
-        for _ in 0..self.costs.len().saturating_add(self.scales.len()) {
-            self.kept.push(false)?;
-        }
+        let count = self.costs.len().saturating_add(self.scales.len());
+        clear_flags(&mut self.kept, count)?;
         for basic in dictionary.basic.iter() {
-            if let Some(kept) = self.kept.get_mut(basic.label as usize) {
-                *kept = true;
-            }
+            let _ = set(&mut self.kept, basic.label as usize);
         }
         Ok(())
+    }
+
+    /// Has no row loose.
+    pub(crate) fn tighten_all(&mut self) -> Result<(), AllocError> {
+        clear_flags(&mut self.loose, self.scales.len())
+    }
+
+    /// Makes a row loose, that of an activity, and answers whether it was not.
+    pub(crate) fn loosen(&mut self, label: u32) -> bool {
+        match (label as usize).checked_sub(self.costs.len()) {
+            Some(row) => set(&mut self.loose, row),
+            None => false,
+        }
     }
 
     /// Takes a column of the problem into the basis, for an activity that isn't kept.
@@ -313,7 +325,7 @@ impl Source {
             .enumerate()
         {
             let entry = at(entries, column).abs();
-            if entry > greatest && !is_kept(&self.kept, basic.label as usize) {
+            if entry > greatest && !is_set(&self.kept, basic.label as usize) {
                 greatest = entry;
                 best = Some(row);
             }
@@ -345,11 +357,33 @@ impl Source {
     }
 }
 
-fn is_kept(kept: &[bool], label: usize) -> bool {
-    match kept.get(label) {
-        Some(kept) => *kept,
+/// The flag at a place, or false past the end.
+fn is_set(flags: &[bool], place: usize) -> bool {
+    match flags.get(place) {
+        Some(flag) => *flag,
         None => false,
     }
+}
+
+/// Sets the flag at a place, and answers whether it was not set.
+fn set(flags: &mut [bool], place: usize) -> bool {
+    match flags.get_mut(place) {
+        Some(flag) => {
+            let was_set = *flag;
+            *flag = true;
+            !was_set
+        }
+        None => false,
+    }
+}
+
+/// Makes a list of so many flags that aren't set.
+fn clear_flags(flags: &mut Vec<bool>, count: usize) -> Result<(), AllocError> {
+    flags.clear();
+    for _ in 0..count {
+        flags.push(false)?;
+    }
+    Ok(())
 }
 
 /// Adds the numbers times a factor at the end.
