@@ -1,11 +1,10 @@
 -- The certificate of a finished book is accepted.
 use Rattle.std.proofs.Common.{◌≡◌, ℕ, ◌+◌, ◌<◌, refl, sym, ◌∙◌, ap, subst, arith, List, [], ◌∷◌, ◌++◌, length, Option}
-use Rattle.std.proofs.Common.{Some, None, inl, inr, ◌≤◌}
+use Rattle.std.proofs.Common.{Some, None}
 use Rattle.std.specs.Prelude.{All, IsSome, option_map}
 use Rattle.std.proofs.lemmas.Int.{ints}
 use Rattle.std.proofs.lemmas.List.Elements.{All-cons, All-nil, All-append}
-use Rattle.std.proofs.lemmas.Bool.{cases_lt, false≢true}
-use Rattle.std.proofs.lemmas.List.{get_or_past, length-append}
+use Rattle.std.proofs.lemmas.List.{length-append}
 use Rattle.bl_terms.specs.Points.{Area}
 use Rattle.bl_terms.specs.Programs.{Program, root, link_of, cost_at, follower_at, value_at}
 use Rattle.bl_terms.specs.Responses.{Entry, Best, NoResponse, IsTrueEntry}
@@ -14,10 +13,9 @@ use Rattle.bl_terms.specs.Trees.{Anything, Covers, low_half, high_half}
 use Rattle.bl_terms.proofs.ResponseLemmas.{entry_law, no_response_no_point, lower_from_rows}
 use Rattle.bl_model.specs.View.{IsModel}
 use Rattle.bl_fproof.specs.Steps.{entry_of}
-use Rattle.bl_leaf_terms.specs.Leaves.{ClosedLeaf}
 use Rattle.bl_leaf_terms.specs.Incumbents.{Incumbent, AreIncumbents, IsEntryFor, cutoff_of}
 use Rattle.bl_leaf_terms.proofs.LeafLemmas.{true_entry}
-use Rattle.bl_book_terms.specs.Books.{no_node, Status, Ready, Claimed, Divided, Closed, Node, node_at, Book}
+use Rattle.bl_book_terms.specs.Books.{Status, Ready, Claimed, Divided, Closed, Node, node_at, Book}
 use Rattle.bl_book_terms.specs.Books.{with_status, ready_node, opening, after, Event, Claim, Back, Split, Close}
 use Rattle.bl_book_terms.specs.Books.{Offer, Leads, IsCurrent, IsFinished, best_value}
 use Rattle.bl_book_terms.proofs.NodeLemmas.{same_length, same_area, old_node}
@@ -25,10 +23,10 @@ use Rattle.bl_book_terms.specs.Laws.{IsSound}
 use Rattle.bl_book_terms.proofs.RunLemmas.{every_run_is_sound}
 use Rattle.bl_cert_terms.specs.Certificates.{ProvedEntry, IsProvedEntry, SaysBest, IsShownPoint, HasShownPoint}
 use Rattle.bl_cert_terms.specs.Certificates.{IsAccepted, stated_cutoff}
-use Rattle.bl_cert_book.specs.Leaves.{placed_leaf, PlacedTree, placed_tree}
-use Rattle.bl_cert_book.specs.BookCertificates.{certificate_of, LeavesStandAlone, FinishedBookHasCertificate}
+use Rattle.bl_cert_book.specs.Leaves.{PlacedTree, placed_tree}
+use Rattle.bl_cert_book.specs.BookCertificates.{certificate_of, FinishedBookHasCertificate}
 use Rattle.bl_cert_book.specs.BookCertificates.{book_tree, stated_by, certificate_with, FinishedBookIsAccepted}
-use Rattle.bl_cert_book.proofs.PlacedTrees.{StandsAlone, leaves_under, can_place_tree}
+use Rattle.bl_cert_book.proofs.PlacedTrees.{can_place_tree}
 use Rattle.bl_cert_book.specs.Entries.{entries_of_best, entries_of_tree, with_entries}
 use Rattle.bl_cert_book.proofs.EntryLemmas.{IsAnswerOf, HasLink, all_entries, rising_entries, links_there, says_best}
 use Rattle.bl_cert_book.proofs.CutLemmas.{extends_itself}
@@ -169,38 +167,20 @@ finished_book_is_accepted l c m some run finished e =
 
 -- ---- there is one
 
-some_of : {X : Type 0} (o : Option X) → IsSome o → (x : X) × (o ≡ Some x)
-some_of None h = absurd (false≢true h)
-some_of (Some x) h = (x, refl)
-
--- a node past the end is no closed one
-past_end : (nodes : List Node) (k : ℕ) (leaf : ClosedLeaf) → length nodes ≤ k
-    → (node_at nodes k).status ≡ Closed leaf → ⊥
-past_end nodes k leaf b is =
-    let e : node_at nodes k ≡ no_node = get_or_past nodes k no_node b in
-    let f : Ready ≡ Closed leaf = sym (ap (λ (n : Node). n.status) e) ∙ is in
-    cc
-
-has_certificate : (b : Book) → IsSound b → IsFinished b → HasFirst b.nodes (root b.program) → LeavesStandAlone b
+has_certificate : (b : Book) → IsSound b → IsFinished b → HasFirst b.nodes (root b.program)
     → IsSome (certificate_of b)
-has_certificate b sound finished first alone =
-    let n = length b.program.rows + 1 in
+has_certificate b sound finished first =
     let tree = book_tree b in
     let covers : Covers Anything (IsBookLeaf b) tree ((node_at b.nodes 0).area ∷ []) =
     tree_covers b (length b.nodes) 0 sound finished first.there (omega arith) in
-    let each : (k : ℕ) (leaf : ClosedLeaf) → (node_at b.nodes k).status ≡ Closed leaf → StandsAlone n leaf =
-    λ k leaf is. elim (cases_lt k (length b.nodes)) [
-      | inl c ↦ some_of (placed_leaf n [] leaf.evidence) (alone k leaf c is)
-      | inr c ↦ absurd (past_end b.nodes k leaf c is)
-    ] in
     let placed =
-    can_place_tree n b tree ((node_at b.nodes 0).area ∷ []) [] covers
-    (leaves_under (StandsAlone n) b.nodes each (length b.nodes) 0) (λ i j c d e. absurd (omega arith)) in
+    can_place_tree (length b.program.rows + 1) b tree ((node_at b.nodes 0).area ∷ []) [] covers tt
+    (λ i j c d e. absurd (omega arith)) in
     subst IsSome (sym (ap (option_map (certificate_with b)) placed.is)) refl
 
 pub finished_book_has_certificate : FinishedBookHasCertificate
-finished_book_has_certificate l m some run finished alone =
+finished_book_has_certificate l m some run finished =
     let start = opening l.book.program l.book.workers l.book.limit in
     let first =
     first_led start l.book l.journal (root l.book.program) (record { there = omega arith; area = refl }) run in
-    has_certificate l.book (every_run_is_sound l m some run) finished first alone
+    has_certificate l.book (every_run_is_sound l m some run) finished first

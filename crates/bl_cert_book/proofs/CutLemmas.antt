@@ -10,7 +10,7 @@ use Rattle.bl_terms.specs.Programs.{Program}
 use Rattle.bl_cut_terms.specs.NoGoods.{LocalRow, no_local_row, local_row_at, local_row, CutStep, AreCutSteps}
 use Rattle.bl_cut_terms.specs.NoGoods.{NoGoodCut, no_step, step_at, cut_of}
 use Rattle.bl_cut.proofs.CutLemmas.{last_at}
-use Rattle.bl_cut_proof.specs.Adopting.{Adopted, adopt, last_place, noted, adopt_cut}
+use Rattle.bl_cut_terms.specs.Adopting.{Adopted, adopt, last_place, noted, adopt_cut}
 use Rattle.bl_cut_proof.proofs.AdoptLemmas.{Extends, some_same, adopt_shown, last_place-at}
 use Rattle.bl_leaf_terms.specs.Leaves.{IsCutFor}
 use Rattle.bl_cert_book.specs.Leaves.{adopt_all}

@@ -1,26 +1,20 @@
 -- Cuts that can be taken over into an empty list can be taken over into each list, to places that stay apart.
 use Rattle.std.proofs.Common.{◌≡◌, ℕ, ◌<◌, ◌≤◌, refl, sym, ◌∙◌, ap, subst, arith, Bool, true, false, cond, List, []}
 use Rattle.std.proofs.Common.{◌∷◌, ◌++◌, length, Option, Some, None, inl, inr}
-use Rattle.std.specs.Prelude.{All, option_and_then}
+use Rattle.std.specs.Prelude.{All}
 use Rattle.std.proofs.lemmas.Bool.{cases_lt}
-use Rattle.std.proofs.lemmas.Option.{option_and_then_some}
-use Rattle.std.proofs.lemmas.List.{length_push, get_or_append_left, map_push, length-map}
-use Rattle.std.proofs.lemmas.List.Elements.{All-from_get_or, All-weaker, All-nil, All-cons, All-append, All-head}
+use Rattle.std.proofs.lemmas.List.{length_push, get_or_append_left, map_push}
+use Rattle.std.proofs.lemmas.List.Elements.{All-from_get_or, All-weaker, All-head}
 use Rattle.std.proofs.lemmas.List.Elements.{All-tail}
 use Rattle.std.proofs.Math.Seq.{get_or-append_seam}
-use Rattle.bl_terms.specs.Points.{Area}
 use Rattle.bl_terms.specs.Programs.{Program}
-use Rattle.bl_cut_terms.specs.NoGoods.{LocalRow, local_row, CutStep, IsCutStep, AreCutSteps, NoGoodCut, no_step}
+use Rattle.bl_cut_terms.specs.NoGoods.{LocalRow, local_row, CutStep, IsCutStep, AreCutSteps, no_step}
 use Rattle.bl_cut_terms.specs.NoGoods.{step_at}
-use Rattle.bl_cut_proof.specs.Adopting.{are_in_order, moved_step, place_in, with_step, Adopted, with_adopted, adopt}
-use Rattle.bl_cut_proof.specs.Adopting.{last_place, noted, adopt_cut}
+use Rattle.bl_cut_terms.specs.Adopting.{are_in_order, moved_step, place_in, with_step, Adopted, with_adopted, adopt}
 use Rattle.bl_cut_proof.proofs.AdoptLemmas.{some_same, IsAdopted, adopt_shown, Decides-order, with_step-at}
-use Rattle.bl_leaf_terms.specs.Leaves.{IsCutFor}
-use Rattle.bl_cert_book.specs.Leaves.{adopt_all}
-use Rattle.bl_cert_book.proofs.CutLemmas.{some_length}
-use Rattle.bl_cert_book.proofs.Steps.{at, ArePlacesApart, IsClearStep, clear_more, clear_step, clear_here, all_at}
-use Rattle.bl_cert_book.proofs.Steps.{moved_on, moved_apart, moved_longer, AreDistinct, place_found, place_is}
-use Rattle.bl_cert_book.proofs.Steps.{with_old, with_new, place_end, distinct_with}
+use Rattle.bl_cut_proof.proofs.TakenSteps.{at, ArePlacesApart, IsClearStep, clear_more, clear_step, clear_here, all_at}
+use Rattle.bl_cut_proof.proofs.TakenSteps.{moved_on, moved_apart, moved_longer, AreDistinct, place_found, place_is}
+use Rattle.bl_cut_proof.proofs.TakenSteps.{with_old, with_new, place_end, distinct_with}
 
 -- the steps of the first list stand in the second at these places, with these places of the cuts that they use
 pub record Follows (p : Program) (old new : List CutStep) (places : List ℕ) : Type 0 where
@@ -266,128 +260,3 @@ follow_adopt p (s ∷ steps) rows a b new places shown g f e =
               ∙ ap (λ (y : Adopted). adopt y steps) one.is ∙ rest.is;
         }
     by false ordered rec h = absurd cc
-
--- ---- one cut
-
-last_of_all : (places : List ℕ) (k : ℕ) (ks : List ℕ) → last_place (all_at places (k ∷ ks))
-    ≡ at places (last_place (k ∷ ks))
-last_of_all places k [] = refl
-last_of_all places k (j ∷ ks) = last_of_all places j ks
-
-last_at_places : (places ks : List ℕ) → 0 < length ks → last_place (all_at places ks) ≡ at places (last_place ks)
-last_at_places places [] b = absurd (omega arith)
-last_at_places places (k ∷ ks) b = last_of_all places k ks
-
-last_below : (n : ℕ) (ks : List ℕ) → 0 < length ks → All (λ k. k < n) ks → last_place ks < n
-last_below n [] b each = absurd (omega arith)
-last_below n (k ∷ []) b each = each 0 0 (omega arith)
-last_below n (k ∷ j ∷ ks) b each =
-    last_below n (j ∷ ks) (omega arith) (All-tail (λ i. i < n) k (j ∷ ks) each)
-
--- a cut is taken over into both, and the places that were noted are places of the first list
-pub record IsCutAlike (p : Program) (b : Adopted) (places : List ℕ) (o : Option Adopted) : Type 0 where
-  pub alike : IsTakenAlike p b places o
-  pub each : All (λ k. k < length b.steps) b.places
-
-follow_cut : (p : Program) (c : NoGoodCut) (a b : Adopted) (new : List CutStep) (places : List ℕ)
-    → AreCutSteps p [] c.steps → 0 < length c.steps → Follows p a.steps new places
-    → All (λ k. k < length a.steps) a.places → adopt_cut a c ≡ Some b
-    → IsCutAlike p b places (adopt_cut (record { steps = new; places = all_at places a.places }) c)
-follow_cut p c a b new places shown some f each e =
-    by (adopt (record { steps = a.steps; places = [] }) c.steps) refl e
-  where
-    by : (o : Option Adopted) → adopt (record { steps = a.steps; places = [] }) c.steps ≡ o
-        → noted a.places o ≡ Some b
-        → IsCutAlike p b places (adopt_cut (record { steps = new; places = all_at places a.places }) c)
-    by None is h = absurd cc
-    by (Some d) is h =
-        let start : IsAdopted p [] (record { steps = a.steps; places = [] }) =
-        record { steps = f.shown; count = refl; placed = λ k l. absurd (omega arith) } in
-        let over = adopt_shown p c.steps [] (record { steps = a.steps; places = [] }) d shown start is in
-        let taken =
-        follow_adopt p c.steps [] (record { steps = a.steps; places = [] }) d new places shown start f is in
-        let count = over.0.count in
-        let l = length-map c.steps local_row in
-        let further : 0 < length d.places = omega arith in
-        let inside : All (λ k. k < length d.steps) d.places =
-        All-from_get_or (λ k. k < length d.steps) d.places 0 (λ k m. (over.0.placed k (omega arith)).0) in
-        let grown : length a.steps ≤ length d.steps =
-        let u = f.count in let v = taken.follows.count in let w = taken.longer.count in omega arith in
-        let placed : All (λ k. k < length places) a.places =
-        All-weaker (λ k. k < length a.steps) (λ k. k < length places) (λ k m. let u = f.count in omega arith) a.places
-        each in
-        let pushed : all_at places a.places ++ last_place (all_at taken.more d.places) ∷ []
-        ≡ all_at taken.more (a.places ++ last_place d.places ∷ []) =
-        ap (λ k. all_at places a.places ++ k ∷ []) (last_at_places taken.more d.places further)
-        ∙ ap (λ ks. ks ++ at taken.more (last_place d.places) ∷ [])
-        (sym (longer_places places taken.more a.places taken.longer placed))
-        ∙ sym (map_push (at taken.more) a.places (last_place d.places)) in
-        let done : Adopted = record { steps = d.steps; places = a.places ++ last_place d.places ∷ [] } in
-        let at_done : IsCutAlike p done places (adopt_cut (record { steps = new; places = all_at places a.places }) c) =
-        record {
-          alike = record {
-            more = taken.more;
-            further = taken.further;
-            follows = taken.follows;
-            longer = taken.longer;
-            is =
-                ap (noted (all_at places a.places)) taken.is
-                ∙ ap (λ (ks : List ℕ). (let x : Option Adopted =
-                Some (record { steps = taken.further; places = ks }) in x)) pushed;
-          };
-          each =
-              All-append (λ k. k < length d.steps) a.places (last_place d.places ∷ [])
-              (All-weaker (λ k. k < length a.steps) (λ k. k < length d.steps) (λ k m. omega arith) a.places each)
-              (All-cons (λ k. k < length d.steps) (last_place d.places) []
-              (last_below (length d.steps) d.places further inside) (All-nil (λ k. k < length d.steps)));
-        } in
-        subst (λ (x : Adopted). IsCutAlike p x places
-        (adopt_cut (record { steps = new; places = all_at places a.places }) c)) (some_same done b h) at_done
-
--- ---- all cuts of a leaf
-
-follow_cuts : (p : Program) (area : Area) (cuts : List NoGoodCut) (a b : Adopted) (new : List CutStep) (places : List ℕ)
-    → All (IsCutFor p area) cuts → Follows p a.steps new places → All (λ k. k < length a.steps) a.places
-    → adopt_all a cuts ≡ Some b
-    → IsCutAlike p b places (adopt_all (record { steps = new; places = all_at places a.places }) cuts)
-follow_cuts p area [] a b new places are f each e =
-    subst (λ (x : Adopted). IsCutAlike p x places (Some (record { steps = new; places = all_at places a.places })))
-    (some_same a b e)
-    (record {
-      alike = record { more = places; further = new; follows = f; longer = longer_itself places; is = refl };
-      each = each;
-    })
-follow_cuts p area (c ∷ cuts) a b new places are f each e =
-    option_and_then_some (λ x. adopt_all x cuts) (adopt_cut a c) b e
-    (λ d is g.
-    let first = All-head (IsCutFor p area) c cuts are in
-    let one = follow_cut p c a d new places first.steps (some_length c.steps first.some) f each is in
-    let rest =
-    follow_cuts p area cuts d b one.alike.further one.alike.more (All-tail (IsCutFor p area) c cuts are)
-    one.alike.follows one.each g in
-    record {
-      alike = record {
-        more = rest.alike.more;
-        further = rest.alike.further;
-        follows = rest.alike.follows;
-        longer = longer_more places one.alike.more rest.alike.more one.alike.longer rest.alike.longer;
-        is = ap (option_and_then (λ x. adopt_all x cuts)) one.alike.is ∙ rest.alike.is;
-      };
-      each = rest.each;
-    })
-
--- cuts that are taken over into the empty list are taken over into each list that has no step twice
-pub cuts_alike : (p : Program) (area : Area) (cuts : List NoGoodCut) (b : Adopted) (new : List CutStep)
-    → All (IsCutFor p area) cuts → AreDistinct new → adopt_all (record { steps = []; places = [] }) cuts ≡ Some b
-    → IsCutAlike p b [] (adopt_all (record { steps = new; places = [] }) cuts)
-cuts_alike p area cuts b new are distinct e =
-    follow_cuts p area cuts (record { steps = []; places = [] }) b new [] are
-    (record {
-      shown = tt;
-      count = refl;
-      below = λ i c. absurd (omega arith);
-      same = λ i c. absurd (omega arith);
-      apart = λ i j c d f. absurd (omega arith);
-      distinct = distinct;
-    })
-    (All-nil (λ k. k < 0)) e

@@ -1,12 +1,9 @@
-pub mod Sorting
-pub mod Moves
-pub mod Steps
 pub mod Weights
 pub mod EntryLemmas
 pub mod CutLemmas
 pub mod Followings
 pub mod PlacedLeaves
 pub mod TreeLemmas
-pub mod PlacedTrees
 pub mod AloneLemmas
+pub mod PlacedTrees
 pub mod BookLemmas

@@ -19,7 +19,7 @@ use Rattle.bl_terms.proofs.TestLemmas.{and_true}
 use Rattle.bl_model.specs.View.{IsModel}
 use Rattle.bl_fproof.specs.Entries.{Admitted}
 use Rattle.bl_cut_terms.specs.NoGoods.{LocalRow, CutStep, AreCutSteps, NoGoodCut, step_at}
-use Rattle.bl_cut_proof.specs.Adopting.{Adopted}
+use Rattle.bl_cut_terms.specs.Adopting.{Adopted}
 use Rattle.bl_cut_proof.proofs.AdoptLemmas.{Extends, some_same}
 use Rattle.bl_leaf_terms.specs.Nodes.{fixed_link}
 use Rattle.bl_leaf_terms.specs.Leaves as leaves

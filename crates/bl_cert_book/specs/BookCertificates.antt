@@ -1,25 +1,18 @@
 -- Trusted. The certificate of a finished book, and that it is accepted.
-use Rattle.std.specs.Prelude.{ℕ, zero, suc, ◌≡◌, ◌+◌, ◌<◌, ◌≤◌, List, [], ◌∷◌, ◌++◌, length, Option, Some, None}
-use Rattle.std.specs.Prelude.{option_map, IsSome, ℤ, ◌≢◌, All, AllPairs}
-use Rattle.bl_terms.specs.Points.{Area}
+use Rattle.std.specs.Prelude.{ℕ, zero, suc, ◌≡◌, ◌+◌, ◌≤◌, List, [], ◌∷◌, ◌++◌, length, Option, Some, None}
+use Rattle.std.specs.Prelude.{option_map, IsSome}
 use Rattle.bl_terms.specs.Programs.{Program, value_at}
-use Rattle.bl_terms.specs.Bounds.{Multipliers}
 use Rattle.bl_terms.specs.Trees.{BareNode, Leaf, Split}
 use Rattle.bl_model.specs.View.{IsModel}
-use Rattle.bl_fproof.specs.Entries.{Admitted}
-use Rattle.bl_cut_terms.specs.declared.parts.CutParts.{CutParts}
-use Rattle.bl_cut_terms.specs.NoGoods.{NoGoodCut, AreCutSteps, cut_of}
-use Rattle.bl_cut_proof.specs.Adopting.{adopt_cut, steps_of}
 use Rattle.bl_leaf_terms.specs.Incumbents.{Incumbent}
-use Rattle.bl_leaf_terms.specs.Leaves as leaves
-use Rattle.bl_leaf_terms.specs.Leaves.{ClosedLeaf, IsBounded}
+use Rattle.bl_leaf_terms.specs.Leaves.{ClosedLeaf}
 use Rattle.bl_book_terms.specs.Books.{Status, Ready, Claimed, Divided, Closed, Node, node_at, Book, Ledger, IsRun}
 use Rattle.bl_book_terms.specs.Books.{IsFinished}
 use Rattle.bl_cert_terms.specs.declared.stated.Statement.{Statement}
 use Rattle.bl_cert_terms.specs.declared.stated.Statement.TheVariants.{Optimal, Infeasible}
 use Rattle.bl_cert_terms.specs.Certificates.{Certificate, IsAccepted}
 use Rattle.bl_cert_book.specs.Entries.{entries_of_best, entries_of_tree, with_entries}
-use Rattle.bl_cert_book.specs.Leaves.{placed_leaf, PlacedTree, placed_tree}
+use Rattle.bl_cert_book.specs.Leaves.{PlacedTree, placed_tree}
 
 -- what a node stands for in the tree, by what the nodes stand for that are its halves, the lower half first. A node
 -- that is still to be worked on stands for nothing
@@ -56,19 +49,10 @@ certificate_with b t = record {
   tree = t.nodes;
 }
 
--- the certificate of a book. There is none where a leaf cites two cuts that are one, or where a cut uses two such cuts
+-- the certificate of a book. There is none where a leaf cites two cuts that are one, or where a cut uses two such
+-- cuts, as none of a finished run does
 abbrev pub certificate_of : Book → Option Certificate
 certificate_of b = option_map (certificate_with b) (placed_tree (rows_before_cuts b.program) [] (book_tree b))
-
--- each leaf of the book alone can be written down: it cites no two cuts that are one, and no cut of it uses two such
-abbrev pub LeavesStandAlone : Book → Type 0
-LeavesStandAlone b =
-    (k : ℕ) (leaf : ClosedLeaf) → k < length b.nodes → (node_at b.nodes k).status ≡ Closed leaf
-    → IsSome (placed_leaf (rows_before_cuts b.program) [] leaf.evidence)
-
--- a cut alone can be written down: none of its steps uses two cuts that are one
-abbrev pub CutStandsAlone : NoGoodCut → Type 0
-CutStandsAlone c = IsSome (adopt_cut (record { steps = []; places = [] }) c)
 
 -- THE LAWS
 
@@ -78,21 +62,8 @@ FinishedBookIsAccepted =
     (l : Ledger) (c : Certificate) → IsModel l.book.program → 1 ≤ l.book.limit → IsRun l → IsFinished l.book
     → certificate_of l.book ≡ Some c → IsAccepted l.book.program c
 
--- and there is one where each leaf alone can be written down
+-- and there is one
 abbrev pub FinishedBookHasCertificate : Type 0
 FinishedBookHasCertificate =
-    (l : Ledger) → IsModel l.book.program → 1 ≤ l.book.limit → IsRun l → IsFinished l.book → LeavesStandAlone l.book
+    (l : Ledger) → IsModel l.book.program → 1 ≤ l.book.limit → IsRun l → IsFinished l.book
     → IsSome (certificate_of l.book)
-
--- a leaf can, where its cuts differ from each other by box or row, and each of them alone can be written down
-abbrev pub OtherCutsStandAlone : Type 0
-OtherCutsStandAlone =
-    (p : Program) (a : Area) (u : Option ℤ) (w : Multipliers) (cuts : List NoGoodCut) (entry : Option Admitted)
-    → IsBounded p a u w cuts entry → AllPairs (λ c d. cut_of c ≢ cut_of d) cuts → All CutStandsAlone cuts
-    → IsSome (placed_leaf (rows_before_cuts p) [] (leaves.Bounded w cuts entry))
-
--- and so can each cut whose steps are those of the cuts that it uses, each once, and its own
-abbrev pub NewCutsStandAlone : Type 0
-NewCutsStandAlone =
-    (p : Program) (a : Area) (earlier : List NoGoodCut) (parts : CutParts) (c : NoGoodCut) → AreCutSteps p [] c.steps
-    → steps_of p a earlier parts ≡ Some c.steps → CutStandsAlone c

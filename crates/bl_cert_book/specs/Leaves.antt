@@ -6,7 +6,7 @@ use Rattle.std.specs.List.{zip}
 use Rattle.bl_terms.specs.Bounds.{Multipliers}
 use Rattle.bl_terms.specs.Trees.{BareNode, Leaf, Split}
 use Rattle.bl_cut_terms.specs.NoGoods.{CutStep, NoGoodCut}
-use Rattle.bl_cut_proof.specs.Adopting.{Adopted, adopt_cut}
+use Rattle.bl_cut_terms.specs.Adopting.{Adopted, adopt_cut}
 use Rattle.bl_leaf_terms.specs.Leaves as leaves
 use Rattle.bl_cert_terms.specs.Certificates.{LeafProof, Bounded, NoAnswer}
 

@@ -6,14 +6,16 @@ use Rattle.bl_limits.specs.declared.TheConstants.{MAX_CUTS}
 use Rattle.bl_model.specs.View.{IsModel}
 use Rattle.bl_cut_terms.specs.ValidRows.{IsValidRow}
 use Rattle.bl_cut_terms.specs.NoGoods.{NoGoodCut, AreCutSteps, cut_of}
+use Rattle.bl_cut_terms.specs.Adopting.{StandsAlone}
 
 -- the program is within the limits of a model, and each step is a no-good cut with the steps before it; there is a last
--- step, and each step has a place that fits an item
+-- step, and each step has a place that fits an item; the steps can be taken over alone
 pub record IsProvedCut (c : NoGoodCut) : Type 0 where
   pub model : IsModel c.program
   pub steps : AreCutSteps c.program [] c.steps
   pub some : 0 < length c.steps
   pub few : length c.steps < 2 ^ 32
+  pub alone : StandsAlone c
 
 -- a list of few cuts, each proved
 pub record AreProvedCuts (cuts : List NoGoodCut) : Type 0 where

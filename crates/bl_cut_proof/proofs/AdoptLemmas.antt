@@ -19,10 +19,10 @@ use Rattle.bl_cut_terms.specs.NoGoods.{LocalRow, no_local_row, local_row_at, loc
 use Rattle.bl_cut_terms.specs.NoGoods.{IsBefore, AreInOrder, IsNoGood, CutStep, IsCutStep, AreCutSteps, NoGoodCut}
 use Rattle.bl_cut_terms.specs.NoGoods.{no_step, step_at, last_step, cut_of}
 use Rattle.bl_cut.specs.Cuts.{cut_at}
-use Rattle.bl_cut_proof.specs.Adopting.{is_before, are_in_order, moved_parts, moved_step, same_step, place_in}
-use Rattle.bl_cut_proof.specs.Adopting.{with_step}
-use Rattle.bl_cut_proof.specs.Adopting.{Adopted, with_adopted, adopt, is_cut, is_used, last_place, noted, adopt_cut}
-use Rattle.bl_cut_proof.specs.Adopting.{adopt_cuts, own_step, with_own, steps_of}
+use Rattle.bl_cut_terms.specs.Adopting.{is_before, are_in_order, moved_parts, moved_step, same_step, place_in}
+use Rattle.bl_cut_terms.specs.Adopting.{with_step}
+use Rattle.bl_cut_terms.specs.Adopting.{Adopted, with_adopted, adopt, is_cut, is_used, last_place, noted, adopt_cut}
+use Rattle.bl_cut_terms.specs.Adopting.{adopt_cuts, own_step, with_own, steps_of}
 use Rattle.bl_cut_proof.specs.Proving.{local_rows}
 use Rattle.bl_cut_proof.proofs.MoveLemmas.{IsPlaced, moved_row, moved_no_good}
 use Rattle.bl_cut_proof.proofs.SameLemmas.{Decides-step}

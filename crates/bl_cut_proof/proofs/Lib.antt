@@ -1,6 +1,10 @@
 pub mod MoveLemmas
 pub mod SameLemmas
 pub mod AdoptLemmas
+pub mod Sorting
+pub mod Moves
+pub mod TakenSteps
+pub mod AloneLemmas
 pub mod CodeLemmas
 pub mod RowLemmas
 pub mod ResponseLemmas

@@ -22,12 +22,13 @@ use Rattle.bl_cut_terms.specs.NoGoods.{last_step, Inverts, IsTightAt, IsUnit, Is
 use Rattle.bl_cut.specs.Cuts.{IsProvedCut, AreProvedCuts, cut_at, no_cut}
 use Rattle.bl_cut_proof.specs.declared.fault.CutFault.{CutFault}
 use Rattle.bl_cut_proof.specs.declared.fault.CutFault.TheVariants.{Size, Inverse, Tight as TightFault, Response, Memory}
-use Rattle.bl_cut_proof.specs.Adopting.{is_cut, is_used, steps_of}
+use Rattle.bl_cut_terms.specs.Adopting.{is_cut, is_used, steps_of}
 use Rattle.bl_cut_proof.specs.Proving.{local_rows, IsOfProgram, AreParts, IsCutOf, IsOwnStep, IsFault, IsSmallRow}
 use Rattle.bl_cut_proof.specs.Faults.{AreShown, IsRowsFault, IsSizeFault}
 use Rattle.bl_cut_proof.specs.Rows.{AreRows, HasShape, IsSized}
 use Rattle.bl_cut_proof.proofs.AdoptLemmas.{Decides-order, UsedAreShown, AreStepsOf, steps_shown}
 use Rattle.bl_cut_proof.proofs.RowLemmas.{rows_fit}
+use Rattle.bl_cut_proof.proofs.AloneLemmas.{new_cut_stands_alone}
 
 -- ---- the size of parts
 
@@ -146,7 +147,14 @@ pub proved : (p : Program) (a : Area) (earlier : List NoGoodCut) (parts : CutPar
     → IsProvedCut (record { program = p; steps = steps })
 proved p a earlier parts rows rs row steps within s e shown all few =
     let are = steps_are p a earlier parts rows rs row steps within s e shown all in
-    record { model = s.model; steps = are.shown; some = are.some; few = few }
+    let c : NoGoodCut = record { program = p; steps = steps } in
+    record {
+      model = s.model;
+      steps = are.shown;
+      some = are.some;
+      few = few;
+      alone = new_cut_stands_alone p a earlier parts c are.shown all;
+    }
 
 pub cut_of_parts : (p : Program) (a : Area) (earlier : List NoGoodCut) (parts : CutParts) (rows rs : List Linear)
     (row : Linear) (steps : List CutStep) (c : NoGoodCut) → IsSized p a earlier parts rows row → rs ≡ rows

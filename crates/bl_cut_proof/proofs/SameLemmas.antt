@@ -10,7 +10,7 @@ use Rattle.bl_cut_terms.specs.declared.parts.Tight.{Tight}
 use Rattle.bl_cut_terms.specs.declared.parts.Tight.TheVariants.{Row, Upper, Lower, Cut}
 use Rattle.bl_cut_terms.specs.declared.parts.CutParts.{CutParts}
 use Rattle.bl_cut_terms.specs.NoGoods.{kind_of, place_of, CutStep}
-use Rattle.bl_cut_proof.specs.Adopting.{same_numbers, same_item, same_unit, same_parts, same_step}
+use Rattle.bl_cut_terms.specs.Adopting.{same_numbers, same_item, same_unit, same_parts, same_step}
 
 abbrev head_or : {X : Type 0} → X → List X → X
 head_or d [] = d

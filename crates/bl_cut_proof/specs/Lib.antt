@@ -1,6 +1,4 @@
--- Adopting and Proving are trusted: the list of steps of a new cut, and when its parts show it. Faults and Rows are
--- internal.
-pub mod Adopting
+-- Proving is trusted: when the parts of a new cut show it. Faults and Rows are internal.
 pub mod Proving
 pub mod Faults
 pub mod Rows

@@ -12,7 +12,7 @@ use Rattle.bl_cut_terms.specs.NoGoods.{HasBetterResponse, IsNoGood, CutStep, cut
 use Rattle.bl_cut.specs.Cuts.{cut_at}
 use Rattle.bl_cut_proof.specs.declared.fault.CutFault.{CutFault}
 use Rattle.bl_cut_proof.specs.declared.fault.CutFault.TheVariants.{Size, Inverse, Tight as TightFault, Response, Memory}
-use Rattle.bl_cut_proof.specs.Adopting.{steps_of, moved_parts}
+use Rattle.bl_cut_terms.specs.Adopting.{steps_of, moved_parts}
 
 -- the earlier cuts' boxes and rows
 abbrev pub local_rows : List NoGoodCut → List LocalRow

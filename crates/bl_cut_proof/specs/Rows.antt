@@ -13,7 +13,7 @@ use Rattle.bl_cut_terms.specs.declared.parts.CutParts.{CutParts}
 use Rattle.bl_model.specs.View.{IsModel}
 use Rattle.bl_model.specs.Boxes.{IsBox}
 use Rattle.bl_cut.specs.Cuts.{AreProvedCuts}
-use Rattle.bl_cut_proof.specs.Adopting.{item_at, are_in_order, is_used, adopt_cut, Adopted}
+use Rattle.bl_cut_terms.specs.Adopting.{item_at, are_in_order, is_used, adopt_cut, Adopted}
 use Rattle.bl_cut_proof.specs.Proving.{local_rows, IsOfProgram}
 use Rattle.bl_cut_proof.specs.Faults.{AreShown}
 

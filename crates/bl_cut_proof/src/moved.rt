@@ -1,7 +1,7 @@
 //! Parts and steps whose cuts get other places.
 ghost use Rattle.std.specs.Prelude.{◌≡◌, IfOk, IfErr};
 ghost use Rattle.std.specs.Arc.{arc_value};
-ghost use Rattle.bl_cut_proof.specs.Adopting.{moved_parts as parts_with, moved_step as step_with};
+ghost use Rattle.bl_cut_terms.specs.Adopting.{moved_parts as parts_with, moved_step as step_with};
 ghost use Rattle.bl_cut_proof.specs.declared.fault.CutFault.TheVariants.{Memory};
 
 use crate::fault::CutFault;

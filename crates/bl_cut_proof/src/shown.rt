@@ -5,7 +5,7 @@ ghost use Rattle.bl_terms.specs.Points.{IsWithinArea};
 ghost use Rattle.bl_terms.specs.Programs.{root};
 ghost use Rattle.bl_cut_terms.specs.NoGoods.{cut_row, last_step};
 ghost use Rattle.bl_cut.specs.Cuts.{IsProvedCut};
-ghost use Rattle.bl_cut_proof.specs.Adopting.{steps_of as all_steps};
+ghost use Rattle.bl_cut_terms.specs.Adopting.{steps_of as all_steps};
 ghost use Rattle.bl_cut_proof.specs.Proving.{local_rows, IsCutOf, IsOwnStep, IsSmallRow};
 ghost use Rattle.bl_cut_proof.specs.Faults.{IsSizeFault};
 ghost use Rattle.bl_cut_proof.specs.Rows.{IsShown};

@@ -3,7 +3,7 @@ ghost use Rattle.std.specs.Prelude.{◌≡◌, ◌≢◌, ◌↔◌, ℕ, ◌<�
 ghost use Rattle.bl_limits.specs.declared.TheConstants.{MAX_PROOF_NUMBER};
 ghost use Rattle.bl_cut_terms.specs.NoGoods.{IsUnit, unit_at};
 ghost use Rattle.bl_cut_terms.specs.declared.parts.Tight.TheVariants.{Cut};
-ghost use Rattle.bl_cut_proof.specs.Adopting.{item_at};
+ghost use Rattle.bl_cut_terms.specs.Adopting.{item_at};
 ghost use Rattle.bl_cut_proof.specs.Rows.{IsUsable, HasShape};
 
 use crate::items::are_in_order;

@@ -1,6 +1,6 @@
 //! Units of items that stand in another order.
 ghost use Rattle.std.specs.Prelude.{◌≡◌, ◌<◌, ◌^◌, length, map, IfOk};
-ghost use Rattle.bl_cut_proof.specs.Adopting.{multiplier_at as multiplier_of, reordered as reordered_by};
+ghost use Rattle.bl_cut_terms.specs.Adopting.{multiplier_at as multiplier_of, reordered as reordered_by};
 
 use bl_raw::Listed;
 use std::alloc::{AllocError, Global};

@@ -65,7 +65,7 @@ one_column n j c z b =
     omega (arith, ints)
 
 -- a row's left side is a sum over the point's columns
-dot_columns : (cs zs : List ℤ) → dot cs zs ≡ sum_below (length zs) (λ k. component cs k *ℤ component zs k)
+pub dot_columns : (cs zs : List ℤ) → dot cs zs ≡ sum_below (length zs) (λ k. component cs k *ℤ component zs k)
 dot_columns cs zs =
     let m = length cs in
     let n = length zs in
@@ -85,7 +85,7 @@ dot_columns cs zs =
     omega (arith, ints)
 
 -- the left side of a sum of rows is the sum of their left sides
-dot_of_sum : (n : ℕ) (rows : List Linear) (z : List ℤ) → length z ≡ n
+pub dot_of_sum : (n : ℕ) (rows : List Linear) (z : List ℤ) → length z ≡ n
     → dot (lowered_sum n rows).coef z ≡ sum_below (length rows) (λ i. dot (linear_at rows i).coef z)
 dot_of_sum n rows z e =
     let m = length rows in

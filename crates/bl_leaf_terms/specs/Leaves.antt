@@ -1,7 +1,7 @@
 -- Trusted. What it means that a box is closed, and what shows it: a bound over rows that are valid on the box, or that
 -- the follower has no answer there.
 use Rattle.std.specs.Prelude.{◌≡◌, ◌≢◌, ◌≤◌, ◌≤ℤ◌, ◌++◌, ℤ, pos, List, [], ◌∷◌, length, map, Option, Some, None}
-use Rattle.std.specs.Prelude.{MatchOption, All}
+use Rattle.std.specs.Prelude.{MatchOption, All, AllPairs}
 use Rattle.bl_whole.specs.Sums.{component}
 use Rattle.bl_limits.specs.declared.TheConstants.{MAX_CUTS}
 use Rattle.bl_terms.specs.Points.{Area, IsArea, InArea, IsWithinArea, Fixes, Linear, row_of_zeros}
@@ -14,6 +14,7 @@ use Rattle.bl_fproof.specs.Entries.{Admitted}
 use Rattle.bl_fproof.specs.Steps.{entry_of}
 use Rattle.bl_cut_terms.specs.ValidRows.{IsValidRow}
 use Rattle.bl_cut_terms.specs.NoGoods.{NoGoodCut, AreCutSteps, cut_of}
+use Rattle.bl_cut_terms.specs.Adopting.{StandsAlone}
 use Rattle.bl_leaf_terms.specs.Incumbents.{Incumbent, IsEntryFor, AreIncumbents, cutoff_of}
 use Rattle.bl_leaf_terms.specs.Nodes.{value_row, fixed_link, HasValue}
 
@@ -43,22 +44,28 @@ pub data Evidence : Type 0 where
   Bounded : Multipliers → List NoGoodCut → Option Admitted → Evidence
   NoAnswer : Admitted → Evidence
 
--- the cut is a shown one of the program, and its box contains this one
+-- the cut is a shown one of the program, whose steps can be taken over alone, and its box contains this one
 pub record IsCutFor (p : Program) (a : Area) (c : NoGoodCut) : Type 0 where
   pub program : c.program ≡ p
   pub steps : AreCutSteps p [] c.steps
   pub some : c.steps ≢ []
+  pub alone : StandsAlone c
   pub within : IsWithinArea a (cut_of c).area
+
+-- no two of the cuts have the same box and row
+abbrev pub AreDistinctCuts : List NoGoodCut → Type 0
+AreDistinctCuts cuts = AllPairs (λ c d. cut_of c ≢ cut_of d) cuts
 
 -- without an entry there is no value, and the place of the value row has the multiplier 0
 abbrev pub HasValueFor : Program → Area → Multipliers → Option Admitted → Option ℤ → Type 0
 HasValueFor p a w None value = (value ≡ None) × (component w.mult (length p.rows) ≡ pos 0)
 HasValueFor p a w (Some e) value = MatchOption value ⊥ (HasValue p a e)
 
--- the multipliers prove the cutoff over the box
+-- the multipliers prove the cutoff over the box, with few cuts, no two of which have the same box and row
 pub record IsBounded (p : Program) (a : Area) (u : Option ℤ) (w : Multipliers) (cuts : List NoGoodCut)
     (entry : Option Admitted) : Type 0 where
   pub few : length cuts ≤ MAX_CUTS
+  pub distinct : AreDistinctCuts cuts
   pub valid : All (IsCutFor p a) cuts
   pub value : Option ℤ
   pub has : HasValueFor p a w entry value

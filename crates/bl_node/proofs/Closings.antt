@@ -63,6 +63,7 @@ pub bounded_by_value : (p : Program) (a : Area) (u : Option ℤ) (w : Multiplier
 bounded_by_value p a u w cuts e v none has proof =
     no_cuts cuts none p a u w (Some e) (record {
       few = omega arith;
+      distinct = λ i j d b c. absurd (omega arith);
       valid = λ i d b. absurd (omega arith);
       value = Some v;
       has = has;
@@ -77,6 +78,7 @@ bounded_plainly p a u w w' cuts none e proof =
     no_cuts cuts none p a u w' None
     (subst (λ (x : Multipliers). IsBounded p a u x [] None) (sym e) (record {
       few = omega arith;
+      distinct = λ i j d b c. absurd (omega arith);
       valid = λ i d b. absurd (omega arith);
       value = None;
       has = (refl, get_or_push w.mult (pos 0) (pos 0) (length p.rows) count);

@@ -12,7 +12,7 @@ use Rattle.bl_cut_terms.specs.declared.parts.Tight.{Tight}
 use Rattle.bl_cut_terms.specs.declared.parts.Tight.TheVariants.{Row, Upper, Lower, Cut}
 use Rattle.bl_cut_terms.specs.NoGoods.{NoGoodCut, IsBefore, AreInOrder, kind_of}
 use Rattle.bl_elimination.specs.Inverses.{RiseFrom}
-use Rattle.bl_cut_proof.specs.Adopting.{item_at}
+use Rattle.bl_cut_terms.specs.Adopting.{item_at}
 use Rattle.bl_nogood.specs.Candidates.{AreChosen, all_items}
 use Rattle.bl_nogood.specs.Choosing.{placed}
 

@@ -26,7 +26,7 @@ use Rattle.bl_elimination.specs.declared.basis.NoBasis.{NoBasis}
 use Rattle.bl_elimination.specs.declared.basis.NoBasis.TheVariants as no_basis
 use Rattle.bl_elimination.specs.Elimination.{elimination, IsGiven}
 use Rattle.bl_elimination.specs.Inverses.{IsBasis, RiseFrom}
-use Rattle.bl_cut_proof.specs.Adopting.{item_at}
+use Rattle.bl_cut_terms.specs.Adopting.{item_at}
 use Rattle.bl_cut_proof.specs.Proving.{local_rows, IsOfProgram, IsCutOf, IsOwnStep, IsSmallRow}
 use Rattle.bl_cut_proof.specs.Rows.{AreRows, IsUsable, IsShown}
 use Rattle.bl_cut_proof.proofs.AdoptLemmas.{Decides-order}

@@ -7,7 +7,7 @@ use Rattle.bl_cut_terms.specs.declared.parts.Tight.{Tight}
 use Rattle.bl_cut_terms.specs.declared.parts.CutParts.{CutParts}
 use Rattle.bl_cut_terms.specs.NoGoods.{NoGoodCut, cut_of, cut_row, last_step}
 use Rattle.bl_cut.specs.Cuts.{IsProvedCut}
-use Rattle.bl_cut_proof.specs.Adopting.{item_at}
+use Rattle.bl_cut_terms.specs.Adopting.{item_at}
 use Rattle.bl_cut_proof.specs.Proving.{local_rows, IsCutOf, IsOwnStep, IsSmallRow}
 use Rattle.bl_elimination.specs.declared.basis.Basis.{Basis}
 use Rattle.bl_elimination.specs.declared.basis.NoBasis.{NoBasis}

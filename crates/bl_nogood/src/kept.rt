@@ -4,7 +4,7 @@ ghost use Rattle.bl_terms.specs.Points.{IsWithinArea};
 ghost use Rattle.bl_terms.specs.Programs.{columns as column_count, root};
 ghost use Rattle.bl_elimination.specs.Elimination.{IsGiven, elimination};
 ghost use Rattle.bl_elimination.specs.Inverses.{IsBasis};
-ghost use Rattle.bl_cut_proof.specs.Adopting.{item_at};
+ghost use Rattle.bl_cut_terms.specs.Adopting.{item_at};
 ghost use Rattle.bl_cut_proof.specs.Rows.{AreRows};
 ghost use Rattle.bl_nogood.specs.Making.{parts_of as parts_with};
 

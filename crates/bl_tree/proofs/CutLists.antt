@@ -1,13 +1,14 @@
 -- Lists of cuts, place by place.
-use Rattle.std.proofs.Common.{◌≡◌, ℕ, ◌+◌, ◌<◌, ◌≤◌, sym, ap, ◌∙◌, append_assoc}
+use Rattle.std.proofs.Common.{◌≡◌, ◌≢◌, ℕ, ◌+◌, ◌<◌, ◌≤◌, sym, ap, ◌∙◌, append_assoc}
 use Rattle.std.proofs.Common.{subst, arith, inl, inr, List, [], ◌∷◌, ◌++◌, length}
-use Rattle.std.specs.Prelude.{All, take, ℤ}
+use Rattle.std.specs.Prelude.{All, take, ℤ, slice_index_or}
 use Rattle.std.proofs.lemmas.Bool.{cases_lt}
 use Rattle.std.proofs.lemmas.List.{get_or_default, map_more}
 use Rattle.bl_terms.specs.Points.{Linear}
 use Rattle.bl_terms.specs.Bounds.{Problem}
 use Rattle.bl_cut_terms.specs.NoGoods.{NoGoodCut, cut_of}
 use Rattle.bl_cut.specs.Cuts.{no_cut, cut_at}
+use Rattle.bl_leaf_terms.specs.Leaves.{AreDistinctCuts}
 use Rattle.bl_tree.specs.Closing.{rows_of}
 
 -- what holds at each place holds of each cut
@@ -16,16 +17,24 @@ pub all_by_places : (P : NoGoodCut → Type 0) (cuts : List NoGoodCut) (n : ℕ)
 all_by_places P cuts n e each =
     λ k d b. subst P (get_or_default cuts k no_cut d b) (each k (omega arith))
 
--- the rows of the first cuts, with one more
-pub rows_more : (cuts : List NoGoodCut) (i : ℕ) → i < length cuts
-    → rows_of (take (i + 1) cuts) ≡ rows_of (take i cuts) ++ (cut_of (cut_at cuts i)).row ∷ []
-rows_more cuts i b = map_more (λ c. (cut_of c).row) cuts i no_cut b
+-- cuts of which each differs from those before it
+pub distinct_by_places : (cuts : List NoGoodCut) (n : ℕ) → length cuts ≤ n
+    → ((j : ℕ) → j < n → (i : ℕ) → i < j → cut_of (cut_at cuts i) ≢ cut_of (cut_at cuts j)) → AreDistinctCuts cuts
+distinct_by_places cuts n e each i j d b c =
+    let first : cut_at cuts i ≡ slice_index_or cuts i d = get_or_default cuts i no_cut d (omega arith) in
+    let second : cut_at cuts j ≡ slice_index_or cuts j d = get_or_default cuts j no_cut d c in
+    λ same. each j (omega arith) i b (ap cut_of first ∙ same ∙ sym (ap cut_of second))
 
 -- a row of these parts
 pub row_is : (r : Linear) (coef : List ℤ) (rhs : ℤ) → coef ≡ r.coef → rhs ≡ r.rhs
     → record { coef = coef; rhs = rhs } ≡ r
 row_is r coef rhs e f =
     ap (λ (x : List ℤ). record { coef = x; rhs = rhs }) e ∙ ap (λ (y : ℤ). record { coef = r.coef; rhs = y }) f
+
+-- the rows of the first cuts, with one more
+pub rows_more : (cuts : List NoGoodCut) (i : ℕ) → i < length cuts
+    → rows_of (take (i + 1) cuts) ≡ rows_of (take i cuts) ++ (cut_of (cut_at cuts i)).row ∷ []
+rows_more cuts i b = map_more (λ c. (cut_of c).row) cuts i no_cut b
 
 -- a problem to which the rows of the first cuts were added, with the row of the next
 pub cut_added : (start before after : Problem) (cuts : List NoGoodCut) (i : ℕ) (r : Linear) → i < length cuts

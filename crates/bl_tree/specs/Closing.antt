@@ -50,10 +50,14 @@ pub record IsFirstOutside (a : Area) (cuts : List NoGoodCut) (k : ℕ) : Type 0 
   pub outside : ¬ IsWithinArea a (cut_of (cut_at cuts k)).area
   pub earlier : (i : ℕ) → i < k → IsWithinArea a (cut_of (cut_at cuts i)).area
 
--- all that the leaf uses is of the program, and its cuts are few and valid on the box
+-- the leaf cites few cuts, no two of which have the same box and row
+abbrev pub CitesFewCuts : Leaf → Type 0
+CitesFewCuts leaf = (length (cuts_used leaf) ≤ MAX_CUTS) × leaves.AreDistinctCuts (cuts_used leaf)
+
+-- all that the leaf uses is of the program, and its cuts are few, differ from each other and are valid on the box
 pub record HasItsCuts (p : Program) (a : Area) (cutoff : Option Incumbent) (leaf : Leaf) : Type 0 where
   pub model : IsOfModel p cutoff leaf
-  pub few : length (cuts_used leaf) ≤ MAX_CUTS
+  pub few : CitesFewCuts leaf
   pub within : All (λ c. IsWithinArea a (cut_of c).area) (cuts_used leaf)
 
 -- ... and where it uses an entry, the box fixes its link
@@ -93,9 +97,9 @@ FailsToBound p a u (NoAnswer kept) = ⊥
 -- the first test that fails, in the order of these cases
 abbrev pub IsLeafFailure : Program → Area → Option Incumbent → Leaf → LeafFail → Type 0
 IsLeafFailure p a cutoff leaf OtherModel = ¬ IsOfModel p cutoff leaf
-IsLeafFailure p a cutoff leaf TooMany = IsOfModel p cutoff leaf × (MAX_CUTS < length (cuts_used leaf))
+IsLeafFailure p a cutoff leaf TooMany = IsOfModel p cutoff leaf × ¬ CitesFewCuts leaf
 IsLeafFailure p a cutoff leaf (CutArea cut) =
-    IsOfModel p cutoff leaf × (length (cuts_used leaf) ≤ MAX_CUTS) × IsFirstOutside a (cuts_used leaf) cut
+    IsOfModel p cutoff leaf × CitesFewCuts leaf × IsFirstOutside a (cuts_used leaf) cut
 IsLeafFailure p a cutoff leaf LinkFree =
     HasItsCuts p a cutoff leaf × MatchOption (entry_used leaf) ⊥ (λ _. ¬ Fixes a p.links)
 IsLeafFailure p a cutoff leaf OtherLink =

@@ -14,12 +14,13 @@ ghost use Rattle.bl_fproof.specs.Steps.{entry_of};
 ghost use Rattle.bl_cut_terms.specs.NoGoods.{cut_of};
 ghost use Rattle.bl_cut.specs.Cuts.{IsProvedCut};
 ghost use Rattle.bl_leaf_terms.specs.Incumbents.{cutoff_of};
-ghost use Rattle.bl_leaf_terms.specs.Leaves.{IsClosed, IsClosedLeaf, IsBounded};
+ghost use Rattle.bl_leaf_terms.specs.Leaves.{IsClosed, IsClosedLeaf, IsBounded, AreDistinctCuts};
 ghost use Rattle.bl_tree.specs.Closing.{evidence_of, cuts_used, entry_used, IsOfModel, IsFirstOutside, HasItsCuts};
-ghost use Rattle.bl_tree.specs.Closing.{HasItsLink, IsAnswered, IsProofWith, IsLeafFailure};
+ghost use Rattle.bl_tree.specs.Closing.{HasItsLink, CitesFewCuts, IsAnswered, IsProofWith, IsLeafFailure};
 ghost use Rattle.bl_tree.specs.Bounds.{IsOfBox, IsBoundFailure};
 ghost use Rattle.bl_tree.specs.declared.leaf.LeafFail.TheVariants.{HasResponse, Memory};
 
+use crate::distinct::are_distinct;
 use crate::incumbent::{Incumbent, cutoff_by};
 use crate::licence::is_incumbent_of;
 use crate::problem::{cut_at, is_link_at, leaf_problem, value_at};
@@ -151,7 +152,7 @@ impl ProvedLeaf {
 pub enum LeafFail {
     /// The incumbent, a cut or an entry is of another model.
     OtherModel,
-    /// More than `MAX_CUTS` cuts are cited.
+    /// More than `MAX_CUTS` cuts are cited, or two of them have the same box and row.
     TooMany,
     /// The box of this cut, numbered from 0 among those that are cited, doesn't contain the leaf's.
     CutArea { cut: u32 },
@@ -219,7 +220,7 @@ fn check_leaf(
     if !is_of_model(model, best, leaf) {
         return Err(LeafFail::OtherModel);
     }
-    if cut_count(leaf) as usize > MAX_CUTS {
+    if !cites_few_cuts(leaf) {
         return Err(LeafFail::TooMany);
     }
     if let Some(cut) = first_outside(area, leaf) {
@@ -239,14 +240,21 @@ fn kept_of(leaf: &Leaf) -> Option<&Kept>
     }
 }
 
-/// How many cuts a leaf cites.
-fn cut_count(leaf: &Leaf) -> u32
-    ensures { result ≡ length (cuts_used leaf.now) }
+/// Whether a leaf cites few cuts, no two of which have the same box and row.
+fn cites_few_cuts(leaf: &Leaf) -> bool
+    ensures { IsTrue result ↔ CitesFewCuts leaf.now }
 {
     match leaf {
-        Leaf::Bounded { cuts, .. } => cuts.count(),
-        Leaf::NoAnswer(_) => 0,
+        Leaf::Bounded { cuts, .. } => are_few(cuts),
+        Leaf::NoAnswer(_) => true,
     }
+}
+
+/// Whether the cuts are few, and no two of them have the same box and row.
+fn are_few(cuts: &Cuts) -> bool
+    ensures { IsTrue result ↔ ((length cuts.now ≤ MAX_CUTS) × AreDistinctCuts cuts.now) }
+{
+    cuts.count() as usize <= MAX_CUTS && are_distinct(cuts)
 }
 
 /// Whether all that the leaf uses is of the model.
@@ -401,6 +409,7 @@ fn check_bound(
     requires cuts { All (λ c. c.program ≡ model.now) cuts.now }
     requires areas { All (λ c. IsWithinArea area.now (cut_of c).area) cuts.now }
     requires few { length cuts.now ≤ MAX_CUTS }
+    requires distinct { AreDistinctCuts cuts.now }
     requires link { MatchOption (option_copied value_row) (Unit {0}) (IsOfBox model.now area.now) }
     ensures ok { OnOk result
         (IsBounded model.now area.now cutoff proof.now cuts.now (option_copied value_row.entry)) }

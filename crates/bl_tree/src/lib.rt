@@ -2,6 +2,7 @@
 //! split a box, closed leaves, and what a worker takes and leaves.
 #![tactic(auto)]
 
+mod distinct;
 mod incumbent;
 pub mod laws;
 mod leaf;

@@ -3,7 +3,7 @@ use Rattle.std.specs.Int.{w64}
 use Rattle.std.specs.Prelude.{FitsSigned}
 use Rattle.std.proofs.lemmas.Int.{to_z-of_z}
 use Rattle.bl_cut_terms.specs.declared.parts.Tight.{Tight}
-use Rattle.bl_cut_proof.specs.Adopting.{order_of, item_at, renumbered_items, reordered, moved_parts}
+use Rattle.bl_cut_terms.specs.Adopting.{order_of, item_at, renumbered_items, reordered, moved_parts}
 use Rattle.bl_cut_proof.proofs.MoveLemmas.{length-order}
 use Rattle.bl_cut_proof.proofs.CodeLemmas.{order_below, moved_order, moved_items}
 use Rattle.bl_cut_proof.proofs.SameLemmas.{parts_same}

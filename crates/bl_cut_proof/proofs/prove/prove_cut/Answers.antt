@@ -2,7 +2,7 @@ use Rattle.std.proofs.Common.{◌≡◌, ◌<◌, ◌^◌, map, length, Some, ar
 use Rattle.std.specs.Arc.{arc_value}
 use Rattle.std.proofs.lemmas.Result.{err_from_is_err_and}
 use Rattle.std.proofs.lemmas.List.{length-map}
-use Rattle.bl_cut_proof.specs.Adopting.{steps_of}
+use Rattle.bl_cut_terms.specs.Adopting.{steps_of}
 use Rattle.bl_cut_proof.specs.Faults.{AreShown}
 use Rattle.bl_cut_proof.specs.Rows.{IsSized}
 use Rattle.bl_cut_proof.proofs.ProveLemmas.{proved, cut_of_parts, own_step_of, rows_fault, sized_at, shown_at, fault_at}

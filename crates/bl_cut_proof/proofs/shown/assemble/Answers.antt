@@ -2,7 +2,7 @@ use Rattle.std.proofs.Common.{◌≡◌, ◌<◌, ◌^◌, map, length, sym, Som
 use Rattle.std.specs.Arc.{arc_value}
 use Rattle.std.proofs.lemmas.List.{length-map}
 use Rattle.bl_cut_terms.specs.NoGoods.{tight_rows}
-use Rattle.bl_cut_proof.specs.Adopting.{steps_of}
+use Rattle.bl_cut_terms.specs.Adopting.{steps_of}
 use Rattle.bl_cut_proof.specs.Proving.{local_rows}
 use Rattle.bl_cut_proof.specs.Rows.{IsSized}
 use Rattle.bl_cut_proof.proofs.ProveLemmas.{proved, cut_of_parts, own_step_of, sized_at, large_at}

@@ -1,5 +1,5 @@
 use Rattle.std.proofs.Common.{ℕ, ◌<◌}
-use Rattle.bl_cut_proof.specs.Adopting.{item_at}
+use Rattle.bl_cut_terms.specs.Adopting.{item_at}
 use Rattle.bl_cut_proof.specs.Rows.{IsUsable}
 use Rattle.bl_cut_proof.proofs.size.are_usable.Given as goal
 

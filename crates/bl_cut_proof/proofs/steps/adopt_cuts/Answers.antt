@@ -2,7 +2,7 @@ use Rattle.std.proofs.Common.{◌≡◌, ◌<◌, sym, map, length, List, ℕ, S
 use Rattle.std.specs.Arc.{arc_value}
 use Rattle.std.proofs.lemmas.Result.{err_from_is_err_and}
 use Rattle.bl_cut.specs.Cuts.{cut_at}
-use Rattle.bl_cut_proof.specs.Adopting.{Adopted}
+use Rattle.bl_cut_terms.specs.Adopting.{Adopted}
 use Rattle.bl_cut_proof.specs.Rows.{over_cut}
 use Rattle.bl_cut_proof.proofs.CodeLemmas.{cuts_more, cuts_stop, size_fault}
 use Rattle.bl_cut_proof.proofs.steps.adopt_cuts.Goals as goal

@@ -1,6 +1,6 @@
 use Rattle.std.proofs.Common.{◌≡◌, [], drop, map, Some}
 use Rattle.std.specs.Arc.{arc_value}
-use Rattle.bl_cut_proof.specs.Adopting.{adopt_cuts}
+use Rattle.bl_cut_terms.specs.Adopting.{adopt_cuts}
 use Rattle.bl_cut_proof.proofs.steps.adopt_cuts.Given as goal
 
 abbrev pub invariant-loop-cut : goal.invariant-loop-cut

@@ -1,6 +1,6 @@
 use Rattle.std.proofs.Common.{◌≡◌, [], drop, map}
 use Rattle.std.specs.Arc.{arc_value}
-use Rattle.bl_cut_proof.specs.Adopting.{adopt}
+use Rattle.bl_cut_terms.specs.Adopting.{adopt}
 use Rattle.bl_cut_proof.proofs.steps.adopt_steps.Given as goal
 
 abbrev pub invariant-loop-step : goal.invariant-loop-step

@@ -1,7 +1,7 @@
 use Rattle.std.proofs.Common.{◌∙◌, ap, map}
 use Rattle.std.specs.Arc.{arc_value}
 use Rattle.std.proofs.lemmas.Result.{err_from_is_err_and}
-use Rattle.bl_cut_proof.specs.Adopting.{last_place}
+use Rattle.bl_cut_terms.specs.Adopting.{last_place}
 use Rattle.bl_cut_proof.proofs.CodeLemmas.{used_over, used_none, size_fault}
 use Rattle.bl_cut_proof.proofs.steps.adopt_used.Goals as goal
 

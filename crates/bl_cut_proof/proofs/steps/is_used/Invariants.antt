@@ -1,5 +1,5 @@
 use Rattle.std.proofs.Common.{◌≡◌, drop}
-use Rattle.bl_cut_proof.specs.Adopting.{is_used}
+use Rattle.bl_cut_terms.specs.Adopting.{is_used}
 use Rattle.bl_cut_proof.proofs.steps.is_used.Given as goal
 
 abbrev pub invariant-loop-item : goal.invariant-loop-item

@@ -1,6 +1,6 @@
 use Rattle.std.proofs.Common.{◌≡◌, ◌+◌, drop, map}
 use Rattle.std.specs.Arc.{arc_value}
-use Rattle.bl_cut_proof.specs.Adopting.{place_in}
+use Rattle.bl_cut_terms.specs.Adopting.{place_in}
 use Rattle.bl_cut_proof.proofs.steps.place_in.Given as goal
 
 abbrev pub invariant-loop-place : goal.invariant-loop-place

@@ -2,7 +2,7 @@ use Rattle.std.proofs.Common.{rules, ◌≡◌, ◌∙◌, sym, ap, subst, map, 
 use Rattle.std.specs.Arc.{arc_value}
 use Rattle.bl_cut_terms.specs.declared.parts.Tight.{Tight}
 use Rattle.bl_cut_terms.specs.NoGoods.{CutStep}
-use Rattle.bl_cut_proof.specs.Adopting.{Adopted, adopt_cuts, moved_parts, are_in_order}
+use Rattle.bl_cut_terms.specs.Adopting.{Adopted, adopt_cuts, moved_parts, are_in_order}
 use Rattle.bl_cut_proof.proofs.CodeLemmas.{own_some, own_disorder}
 use Rattle.bl_cut_proof.proofs.steps.steps_of.Goals as goal
 

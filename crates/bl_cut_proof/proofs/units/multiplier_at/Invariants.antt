@@ -1,5 +1,5 @@
 use Rattle.std.proofs.Common.{◌≡◌, drop}
-use Rattle.bl_cut_proof.specs.Adopting.{multiplier_at}
+use Rattle.bl_cut_terms.specs.Adopting.{multiplier_at}
 use Rattle.bl_cut_proof.proofs.units.multiplier_at.Given as goal
 
 abbrev pub invariant-loop-item : goal.invariant-loop-item

@@ -1,5 +1,5 @@
 use Rattle.std.proofs.Common.{◌≡◌, ◌++◌, drop}
-use Rattle.bl_cut_proof.specs.Adopting.{reordered}
+use Rattle.bl_cut_terms.specs.Adopting.{reordered}
 use Rattle.bl_cut_proof.proofs.units.reordered.Given as goal
 
 abbrev pub invariant-loop-place : goal.invariant-loop-place

@@ -1,5 +1,5 @@
 use Rattle.std.proofs.Common.{◌∙◌, ap}
-use Rattle.bl_cut_proof.specs.Adopting.{reordered}
+use Rattle.bl_cut_terms.specs.Adopting.{reordered}
 use Rattle.bl_cut_proof.proofs.CodeLemmas.{map_more}
 use Rattle.bl_cut_proof.proofs.units.reordered_units.Goals as goal
 

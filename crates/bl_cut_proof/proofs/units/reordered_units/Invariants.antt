@@ -1,5 +1,5 @@
 use Rattle.std.proofs.Common.{◌≡◌, take, map}
-use Rattle.bl_cut_proof.specs.Adopting.{reordered}
+use Rattle.bl_cut_terms.specs.Adopting.{reordered}
 use Rattle.bl_cut_proof.proofs.units.reordered_units.Given as goal
 
 abbrev pub invariant-loop-unit : goal.invariant-loop-unit

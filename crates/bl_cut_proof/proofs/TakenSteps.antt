@@ -13,11 +13,11 @@ use Rattle.bl_cut_terms.specs.declared.parts.Tight.TheVariants.{Row, Upper, Lowe
 use Rattle.bl_cut_terms.specs.declared.parts.CutParts.{CutParts}
 use Rattle.bl_cut_terms.specs.NoGoods.{kind_of, place_of, AreInOrder, IsUnit, IsThere, LocalRow, local_row, CutStep}
 use Rattle.bl_cut_terms.specs.NoGoods.{IsCutStep, AreCutSteps, no_step, step_at}
-use Rattle.bl_cut_proof.specs.Adopting.{renumbered, moved_step, same_step, place_in, with_step}
+use Rattle.bl_cut_terms.specs.Adopting.{renumbered, moved_step, same_step, place_in, with_step}
 use Rattle.bl_cut_proof.proofs.SameLemmas.{Decides-step}
-use Rattle.bl_cert_book.proofs.Sorting.{itself, KeepsApart}
-use Rattle.bl_cert_book.proofs.Moves.{moved_by, moved_twice, moved_alike, moved_itself, moved_order, moved_clear}
-use Rattle.bl_cert_book.proofs.Moves.{moved_all}
+use Rattle.bl_cut_proof.proofs.Sorting.{itself, KeepsApart}
+use Rattle.bl_cut_proof.proofs.Moves.{moved_by, moved_twice, moved_alike, moved_itself, moved_order, moved_clear}
+use Rattle.bl_cut_proof.proofs.Moves.{moved_all}
 
 -- the place that a place gets
 abbrev pub at : List ℕ → ℕ → ℕ
