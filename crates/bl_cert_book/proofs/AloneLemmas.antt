@@ -1,6 +1,6 @@
 -- The cuts of a leaf can be taken over behind others, to places that are apart: each of them stands alone, and they
 -- differ by box or row.
-use Rattle.std.proofs.Common.{◌≡◌, ◌≢◌, ℕ, suc, ◌+◌, refl, sym, ◌∙◌, ap, arith, List}
+use Rattle.std.proofs.Common.{◌≡◌, ◌≢◌, ℕ, suc, refl, sym, ◌∙◌, ap, arith, List}
 use Rattle.std.proofs.Common.{[], ◌∷◌, ◌++◌, Option, Some, None}
 use Rattle.std.specs.Prelude.{ℤ, All, IsSome, option_and_then}
 use Rattle.std.specs.List.{zip}
@@ -13,7 +13,6 @@ use Rattle.bl_cut_terms.specs.Adopting.{Adopted, adopt, adopt_cut, last_place, n
 use Rattle.bl_cut_proof.proofs.Sorting.{itself, IsOther, AreApart}
 use Rattle.bl_cut_proof.proofs.TakenSteps.{all_at, AreDistinct}
 use Rattle.bl_leaf_terms.specs.Leaves.{IsCutFor, AreDistinctCuts}
-use Rattle.bl_leaf_terms.specs.Leaves as leaves
 use Rattle.bl_cert_book.specs.Leaves.{adopt_all}
 use Rattle.bl_cert_book.proofs.CutLemmas.{StandsAt, StandAt}
 use Rattle.bl_cert_book.proofs.Followings.{follow_adopt}

@@ -1,6 +1,6 @@
 -- The candidates that are kept show a cut.
-use Rattle.std.proofs.Common.{◌≡◌, ℕ, ◌+◌, ◌<◌, ◌≤◌, List, [], ◌∷◌, length, map, refl, sym, ap, subst, ◌∙◌, inl, inr}
-use Rattle.std.proofs.Common.{arith, Result, Ok, Err}
+use Rattle.std.proofs.Common.{◌≡◌, ℕ, ◌<◌, ◌≤◌, List, [], ◌∷◌, length, map, refl, sym, ap, subst, ◌∙◌, inr}
+use Rattle.std.proofs.Common.{arith, Result, Ok}
 use Rattle.std.specs.Prelude.{All, slice_index_or, ℤ, ◌<ℤ◌}
 use Rattle.std.proofs.lemmas.List.{length-map, get_or-map}
 use Rattle.std.proofs.lemmas.List.Elements.{All-nil, All-cons, All-head, All-tail}
@@ -18,13 +18,12 @@ use Rattle.bl_cut_terms.specs.declared.parts.Tight.TheVariants.{Row}
 use Rattle.bl_cut_terms.specs.NoGoods.{NoGoodCut, tight_row, tight_rows, IsUnit, Inverts, IsThere, last_step}
 use Rattle.bl_cut_terms.specs.NoGoods.{cut_row, HasBetterResponse}
 use Rattle.bl_cut_terms.specs.declared.parts.CutParts.{CutParts}
-use Rattle.bl_cut.specs.Cuts.{AreProvedCuts, IsProvedCut}
+use Rattle.bl_cut.specs.Cuts.{AreProvedCuts}
 use Rattle.bl_model.specs.Boxes.{IsBox}
 use Rattle.bl_model.specs.View.{IsModel}
 use Rattle.bl_elimination.specs.declared.basis.Basis.{Basis}
 use Rattle.bl_elimination.specs.declared.basis.NoBasis.{NoBasis}
-use Rattle.bl_elimination.specs.declared.basis.NoBasis.TheVariants as no_basis
-use Rattle.bl_elimination.specs.Elimination.{elimination, IsGiven}
+use Rattle.bl_elimination.specs.Elimination.{elimination}
 use Rattle.bl_elimination.specs.Inverses.{IsBasis, RiseFrom}
 use Rattle.bl_cut_terms.specs.Adopting.{item_at}
 use Rattle.bl_cut_proof.specs.Proving.{local_rows, IsOfProgram, IsCutOf, IsOwnStep, IsSmallRow}
@@ -32,10 +31,9 @@ use Rattle.bl_cut_proof.specs.Rows.{AreRows, IsUsable, IsShown}
 use Rattle.bl_cut_proof.proofs.AdoptLemmas.{Decides-order}
 use Rattle.bl_cut_proof.proofs.RowLemmas.{rows_fit, point_fits, point_places}
 use Rattle.bl_nogood.specs.Candidates.{AreCandidates, IsCandidate, all_items, candidate_problem}
-use Rattle.bl_nogood.specs.declared.no_cut.NoCut.{NoCut}
 use Rattle.bl_nogood.specs.declared.no_cut.NoCut.TheVariants.{TooLarge}
-use Rattle.bl_nogood.specs.Choosing.{AreMadeParts, fails_as}
-use Rattle.bl_nogood.specs.Making.{parts_of, IsEliminated, IsMadeCut, IsCutAt, IsNoCut}
+use Rattle.bl_nogood.specs.Choosing.{AreMadeParts}
+use Rattle.bl_nogood.specs.Making.{parts_of, IsEliminated, IsMadeCut, IsNoCut}
 use Rattle.bl_nogood.proofs.Chosen.{chosen_hold, rising_below, kept_order}
 
 pub candidates_there : (p : Program) (a : Area) (earlier : List NoGoodCut) (z : List ℤ) (candidates : List Tight)

@@ -1,5 +1,5 @@
 -- Trusted. The candidates of a no-good cut at a point: what holds with equality there, in its order.
-use Rattle.std.specs.Prelude.{◌≡◌, ℕ, ◌⊎◌, ℤ, List, [], ◌∷◌, ◌++◌, length, map}
+use Rattle.std.specs.Prelude.{◌≡◌, ◌⊎◌, ℤ, List, [], ◌∷◌, ◌++◌, length, map}
 use Rattle.std.specs.List.{range_with_len}
 use Rattle.bl_whole.specs.Sums.{dot}
 use Rattle.bl_terms.specs.Points.{Area}
