@@ -1,0 +1,9 @@
+use Rattle.std.proofs.Common.{◌≡◌}
+use Rattle.bl_certline.specs.FieldValues.{number_of}
+use Rattle.bl_certline.specs.LineValues.{each_of}
+use Rattle.bl_certline.proofs.Lists.{with_front}
+use Rattle.bl_certline.proofs.values.numbers_of.Given as goal
+
+abbrev pub invariant-loop-word : goal.invariant-loop-word
+invariant-loop-word l =
+    with_front l.numbers.items (each_of number_of l.word-iterator) ≡ each_of number_of l.initial.word-iterator

@@ -1,0 +1,6 @@
+pub mod Fields
+pub mod FieldValues
+pub mod Forms
+pub mod Lines
+pub mod LineValues
+pub mod SplitWords
