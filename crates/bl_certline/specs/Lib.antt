@@ -3,4 +3,5 @@ pub mod FieldValues
 pub mod Forms
 pub mod Lines
 pub mod LineValues
+pub mod Spelled
 pub mod SplitWords

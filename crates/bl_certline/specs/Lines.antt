@@ -1,7 +1,7 @@
 -- Trusted. The lines of a certificate, and the one spelling of each.
 use Rattle.std.specs.Prelude.{◌≡◌, ℕ, ◌≤◌, Bool, List, [], ◌∷◌, ◌++◌, length, map, ℤ, pos, ◌≤ℤ◌, ◌<ℤ◌, unsigned_abs, codes}
 use Rattle.std.specs.Prelude.{⊤, if◌then◌else◌}
-use Rattle.std.specs.List.{AllByRecursion, flat_map, join_with_byte}
+use Rattle.std.specs.List.{AllAdjacentBelow, AllByRecursion, flat_map, join_with_byte}
 use Rattle.std.specs.Fmt.{signed_decimal}
 use Rattle.bl_limits.specs.declared.TheConstants.{MAX_PROOF_NUMBER}
 use Rattle.bl_certline.specs.declared.line.CertLine.{CertLine}
@@ -124,17 +124,15 @@ pub record IsSpelled (bytes : Bytes) (line : CertLine) : Type 0 where
   pub well_formed : IsWellFormed line
   pub spelled : bytes ≡ spelling line
 
--- each number is below the next
-abbrev pub Rises : List ℤ → Type 0
-Rises [] = ⊤
-Rises (x ∷ []) = ⊤
-Rises (x ∷ y ∷ zs) = (x <ℤ y) × Rises (y ∷ zs)
+-- each index is below the next
+abbrev pub IndicesRise : List (ℤ × ℤ) → Type 0
+IndicesRise ps = AllAdjacentBelow (λ p q. p.0 <ℤ q.0) ps (length ps)
 
 -- the indices of a line's pairs rise
 abbrev pub PairsRise : CertLine → Type 0
-PairsRise (lines.Proof den mult) = Rises (map (λ p. p.0) mult)
-PairsRise (lines.Unit pairs) = Rises (map (λ p. p.0) pairs)
-PairsRise (lines.Close den value_row count cuts mult) = Rises (map (λ p. p.0) mult)
+PairsRise (lines.Proof den mult) = IndicesRise mult
+PairsRise (lines.Unit pairs) = IndicesRise pairs
+PairsRise (lines.Close den value_row count cuts mult) = IndicesRise mult
 PairsRise other = ⊤
 
 -- the line is well formed, its pairs rise, and these bytes are its spelling

@@ -9,8 +9,12 @@ mod body;
 mod fields;
 mod form;
 mod line;
+mod put;
+mod read;
 mod values;
 mod words;
 
 pub use fields::{next_line, pair_field, whole_field};
 pub use line::{CertLine, TightItem};
+pub use put::put_line;
+pub use read::{pairs_rise, read_line, read_spelled};
