@@ -1,3 +1,4 @@
+pub mod LineReading
 pub mod LineWords
 pub mod Lists
 pub mod Numbers

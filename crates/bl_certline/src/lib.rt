@@ -8,6 +8,7 @@
 mod body;
 mod fields;
 mod form;
+pub mod laws;
 mod line;
 mod put;
 mod read;
