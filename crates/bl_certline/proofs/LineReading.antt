@@ -97,12 +97,12 @@ unfolding sense_line
 sense-takes [] line e = absurd cc
 sense-takes (word ∷ words) line e =
     option_and_then_some _ (sense_of word) line e (λ maximise read last.
-      let alone = cond_some _ _ _ last in
-      subst (Takes (codes "sense" ∷ word ∷ words)) alone.1 (record {
-        well_formed = tt;
-        spelled = behind (codes "sense") (word ∷ words) (word ∷ []) (behind word words [] (none_left words alone.0))
-            ∙ ap (λ (w : Bytes). codes "sense" ∷ w ∷ []) (sense_of-some word maximise read);
-      }))
+    let alone = cond_some _ _ _ last in
+    subst (Takes (codes "sense" ∷ word ∷ words)) alone.1 (record {
+      well_formed = tt;
+      spelled = behind (codes "sense") (word ∷ words) (word ∷ []) (behind word words [] (none_left words alone.0))
+          ∙ ap (λ (w : Bytes). codes "sense" ∷ w ∷ []) (sense_of-some word maximise read);
+    }))
 
 statement-takes : (word : Bytes) (words : List Bytes) (line : CertLine) → statement_of word words ≡ Some line
     → Takes (codes "states" ∷ word ∷ words) line
@@ -114,12 +114,12 @@ statement-takes word words line e =
       | true ↦ λ test f.
           let same = (bytes_eq-Decides word (codes "optimal")).0 test in
           option_map_some lines.StatesOptimal (only_number words) line f (λ value read made.
-            let found = only_number-some words value read in
-            subst (Takes (codes "states" ∷ word ∷ words)) made (record {
-              well_formed = found.whole;
-              spelled = ap (λ (w : Bytes). codes "states" ∷ w ∷ words) same
-                  ∙ ap (λ (ws : List Bytes). codes "states" ∷ codes "optimal" ∷ ws) found.spelled;
-            }))
+          let found = only_number-some words value read in
+          subst (Takes (codes "states" ∷ word ∷ words)) made (record {
+            well_formed = found.whole;
+            spelled = ap (λ (w : Bytes). codes "states" ∷ w ∷ words) same
+                ∙ ap (λ (ws : List Bytes). codes "states" ∷ codes "optimal" ∷ ws) found.spelled;
+          }))
       | false ↦ λ test f.
           let tested = cond_some _ _ _ f in
           let both = and_true _ _ tested.0 in
@@ -141,43 +141,43 @@ split-takes : (words : List Bytes) (line : CertLine) → split_line words ≡ So
 unfolding split_line
 split-takes words line e =
     option_and_then_some _ (number_at words) line e (λ column first rest.
-      option_and_then_some _ (only_number column.1) line rest (λ place second last.
-        let one = number_at-some words column first in
-        let other = only_number-some column.1 place second in
-        let made : lines.Split column.0 place ≡ line = cc in
-        subst (Takes (codes "split" ∷ words)) made (record {
-          well_formed = (one.whole, other.whole);
-          spelled = behind (codes "split") words _ one.spelled
-              ∙ ap (λ (ws : List Bytes). codes "split" ∷ signed_decimal column.0 ∷ ws) other.spelled;
-        })))
+    option_and_then_some _ (only_number column.1) line rest (λ place second last.
+    let one = number_at-some words column first in
+    let other = only_number-some column.1 place second in
+    let made : lines.Split column.0 place ≡ line = cc in
+    subst (Takes (codes "split" ∷ words)) made (record {
+      well_formed = (one.whole, other.whole);
+      spelled = behind (codes "split") words _ one.spelled
+          ∙ ap (λ (ws : List Bytes). codes "split" ∷ signed_decimal column.0 ∷ ws) other.spelled;
+    })))
 
 best-takes : (words : List Bytes) (line : CertLine) → best_line words ≡ Some line → Takes (codes "best" ∷ words) line
 unfolding best_line
 best-takes words line e =
     option_and_then_some _ (number_at words) line e (λ value first rest.
-      option_and_then_some _ (each_of number_of value.1) line rest (λ response second last.
-        let one = number_at-some words value first in
-        let others = numbers-some value.1 response second in
-        let made : lines.Best value.0 response ≡ line = cc in
-        subst (Takes (codes "best" ∷ words)) made (record {
-          well_formed = (one.whole, others.are);
-          spelled = behind (codes "best") words _ one.spelled
-              ∙ ap (λ (ws : List Bytes). codes "best" ∷ signed_decimal value.0 ∷ ws) others.spelled;
-        })))
+    option_and_then_some _ (each_of number_of value.1) line rest (λ response second last.
+    let one = number_at-some words value first in
+    let others = numbers-some value.1 response second in
+    let made : lines.Best value.0 response ≡ line = cc in
+    subst (Takes (codes "best" ∷ words)) made (record {
+      well_formed = (one.whole, others.are);
+      spelled = behind (codes "best") words _ one.spelled
+          ∙ ap (λ (ws : List Bytes). codes "best" ∷ signed_decimal value.0 ∷ ws) others.spelled;
+    })))
 
 proof-takes : (words : List Bytes) (line : CertLine) → proof_line words ≡ Some line → Takes (codes "proof" ∷ words) line
 unfolding proof_line
 proof-takes words line e =
     option_and_then_some _ (den_at words) line e (λ den first rest.
-      option_and_then_some _ (each_of multiplier_of den.1) line rest (λ mult second last.
-        let one = den_at-some words den first in
-        let others = multipliers-some den.1 mult second in
-        let made : lines.Proof den.0 mult ≡ line = cc in
-        subst (Takes (codes "proof" ∷ words)) made (record {
-          well_formed = (one.small, others.are);
-          spelled = behind (codes "proof") words _ one.spelled
-              ∙ ap (λ (ws : List Bytes). codes "proof" ∷ signed_decimal den.0 ∷ ws) others.spelled;
-        })))
+    option_and_then_some _ (each_of multiplier_of den.1) line rest (λ mult second last.
+    let one = den_at-some words den first in
+    let others = multipliers-some den.1 mult second in
+    let made : lines.Proof den.0 mult ≡ line = cc in
+    subst (Takes (codes "proof" ∷ words)) made (record {
+      well_formed = (one.small, others.are);
+      spelled = behind (codes "proof") words _ one.spelled
+          ∙ ap (λ (ws : List Bytes). codes "proof" ∷ signed_decimal den.0 ∷ ws) others.spelled;
+    })))
 
 -- what stands before the cuts of a leaf
 record IsHead (words : List Bytes) (head : ℤ × Bool × ℤ × List Bytes) : Type 0 where
@@ -188,47 +188,47 @@ record IsHead (words : List Bytes) (head : ℤ × Bool × ℤ × List Bytes) : T
 head-rest : (den : ℤ × List Bytes) (words : List Bytes) (head : ℤ × Bool × ℤ × List Bytes) (marked : List Bytes)
     → den.1 ≡ marked → IsProofNumber den.0 → words ≡ signed_decimal den.0 ∷ den.1
     → option_and_then (λ mark. option_and_then (λ value_row. option_and_then (λ count.
-        Some (den.0, value_row, count.0, count.1)) (number_at mark.1)) (value_row_of mark.0)) (first_word marked) ≡ Some head
+    Some (den.0, value_row, count.0, count.1)) (number_at mark.1)) (value_row_of mark.0)) (first_word marked) ≡ Some head
     → IsHead words head
 head-rest den words head [] same small spelled e = absurd cc
 head-rest den words head (mark ∷ others) same small spelled e =
     option_and_then_some _ (value_row_of mark) head e (λ value_row second rest.
-      option_and_then_some _ (number_at others) head rest (λ count third last.
-        let number = number_at-some others count third in
-        let all : ℤ × Bool × ℤ × List Bytes = (den.0, value_row, count.0, count.1) in
-        let made : all ≡ head = cc in
-        subst (IsHead words) made (record {
-          small = small;
-          whole = number.whole;
-          spelled = spelled ∙ ap (λ (ws : List Bytes). signed_decimal den.0 ∷ ws) same
-              ∙ ap (λ (w : Bytes). signed_decimal den.0 ∷ w ∷ others) (value_row_of-some mark value_row second)
-              ∙ ap (λ (ws : List Bytes). signed_decimal den.0 ∷ value_mark value_row ∷ ws) number.spelled;
-        })))
+    option_and_then_some _ (number_at others) head rest (λ count third last.
+    let number = number_at-some others count third in
+    let all : ℤ × Bool × ℤ × List Bytes = (den.0, value_row, count.0, count.1) in
+    let made : all ≡ head = cc in
+    subst (IsHead words) made (record {
+      small = small;
+      whole = number.whole;
+      spelled = spelled ∙ ap (λ (ws : List Bytes). signed_decimal den.0 ∷ ws) same
+          ∙ ap (λ (w : Bytes). signed_decimal den.0 ∷ w ∷ others) (value_row_of-some mark value_row second)
+          ∙ ap (λ (ws : List Bytes). signed_decimal den.0 ∷ value_mark value_row ∷ ws) number.spelled;
+    })))
 
 close_head-some : (words : List Bytes) (head : ℤ × Bool × ℤ × List Bytes) → close_head words ≡ Some head
     → IsHead words head
 unfolding close_head
 close_head-some words head e =
     option_and_then_some _ (den_at words) head e (λ den first rest.
-      let one = den_at-some words den first in head-rest den words head den.1 refl one.small one.spelled rest)
+    let one = den_at-some words den first in head-rest den words head den.1 refl one.small one.spelled rest)
 
 close-takes : (words : List Bytes) (line : CertLine) → close_line words ≡ Some line → Takes (codes "close" ∷ words) line
 unfolding close_line
 close-takes words line e =
     option_and_then_some _ (close_head words) line e (λ head first rest.
-      option_and_then_some _ (cuts_at head.2 head.3) line rest (λ cuts second more.
-        option_and_then_some _ (each_of multiplier_of cuts.1) line more (λ mult third last.
-          let front = close_head-some words head first in
-          let cited = cuts_at-some head.2 head.3 cuts second in
-          let pairs = multipliers-some cuts.1 mult third in
-          let made : lines.Close head.0 head.1 head.2 cuts.0 mult ≡ line = cc in
-          subst (Takes (codes "close" ∷ words)) made (record {
-            well_formed = (front.small, front.whole, cited.counted, cited.are, pairs.are);
-            spelled = behind (codes "close") words _ front.spelled
-                ∙ ap (λ (ws : List Bytes). codes "close" ∷ signed_decimal head.0 ∷ value_mark head.1
-                ∷ signed_decimal head.2 ∷ ws) (cited.spelled
-                ∙ ap (λ (ws : List Bytes). number_words cuts.0 ++ ws) pairs.spelled);
-          }))))
+    option_and_then_some _ (cuts_at head.2 head.3) line rest (λ cuts second more.
+    option_and_then_some _ (each_of multiplier_of cuts.1) line more (λ mult third last.
+    let front = close_head-some words head first in
+    let cited = cuts_at-some head.2 head.3 cuts second in
+    let pairs = multipliers-some cuts.1 mult third in
+    let made : lines.Close head.0 head.1 head.2 cuts.0 mult ≡ line = cc in
+    subst (Takes (codes "close" ∷ words)) made (record {
+      well_formed = (front.small, front.whole, cited.counted, cited.are, pairs.are);
+      spelled = behind (codes "close") words _ front.spelled
+          ∙ ap (λ (ws : List Bytes). codes "close" ∷ signed_decimal head.0 ∷ value_mark head.1
+          ∷ signed_decimal head.2 ∷ ws) (cited.spelled
+          ∙ ap (λ (ws : List Bytes). number_words cuts.0 ++ ws) pairs.spelled);
+    }))))
 
 -- ---- lines of each form
 
@@ -237,22 +237,22 @@ line_by-takes : (form : Form) (words : List Bytes) (line : CertLine) → line_by
 unfolding line_by
 line_by-takes forms.Version words line e =
     mapped-takes _ words lines.Version (only_number words) line (λ z read.
-      let found = only_number-some words z read in
-      record { well_formed = found.whole; spelled = behind _ words _ found.spelled }) e
+    let found = only_number-some words z read in
+    record { well_formed = found.whole; spelled = behind _ words _ found.spelled }) e
 line_by-takes forms.Sense words line e = sense-takes words line e
 line_by-takes forms.States words line e = states-takes words line e
 line_by-takes forms.Point words line e =
     mapped-takes _ words lines.Point (each_of number_of words) line (λ zs read.
-      let found = numbers-some words zs read in
-      record { well_formed = found.are; spelled = behind _ words _ found.spelled }) e
+    let found = numbers-some words zs read in
+    record { well_formed = found.are; spelled = behind _ words _ found.spelled }) e
 line_by-takes forms.Entries words line e =
     mapped-takes _ words lines.Entries (only_count words) line (λ z read.
-      let found = only_count-some words z read in
-      record { well_formed = (found.number.whole, found.from); spelled = behind _ words _ found.number.spelled }) e
+    let found = only_count-some words z read in
+    record { well_formed = (found.number.whole, found.from); spelled = behind _ words _ found.number.spelled }) e
 line_by-takes forms.Entry words line e =
     mapped-takes _ words lines.EntryHead (each_of number_of words) line (λ zs read.
-      let found = numbers-some words zs read in
-      record { well_formed = found.are; spelled = behind _ words _ found.spelled }) e
+    let found = numbers-some words zs read in
+    record { well_formed = found.are; spelled = behind _ words _ found.spelled }) e
 line_by-takes forms.Best words line e = best-takes words line e
 line_by-takes forms.NoAnswer words line e =
     alone-takes _ words lines.NoAnswer line (record { well_formed = tt; spelled = refl }) e
@@ -260,34 +260,34 @@ line_by-takes forms.Split words line e = split-takes words line e
 line_by-takes forms.Proof words line e = proof-takes words line e
 line_by-takes forms.Cuts words line e =
     mapped-takes _ words lines.CutCount (only_count words) line (λ z read.
-      let found = only_count-some words z read in
-      record { well_formed = (found.number.whole, found.from); spelled = behind _ words _ found.number.spelled }) e
+    let found = only_count-some words z read in
+    record { well_formed = (found.number.whole, found.from); spelled = behind _ words _ found.number.spelled }) e
 line_by-takes forms.Cut words line e =
     alone-takes _ words lines.CutHead line (record { well_formed = tt; spelled = refl }) e
 line_by-takes forms.Area words line e =
     mapped-takes _ words lines.Area (sides_of words) line (λ ss read.
-      let found = sides-some words ss read in
-      record { well_formed = found.are; spelled = behind _ words _ found.spelled }) e
+    let found = sides-some words ss read in
+    record { well_formed = found.are; spelled = behind _ words _ found.spelled }) e
 line_by-takes forms.Tight words line e =
     mapped-takes _ words lines.TightList (each_of item_of words) line (λ ts read.
-      let found = items-some words ts read in
-      record { well_formed = found.are; spelled = behind _ words _ found.spelled }) e
+    let found = items-some words ts read in
+    record { well_formed = found.are; spelled = behind _ words _ found.spelled }) e
 line_by-takes forms.Inverse words line e =
     mapped-takes _ words lines.Inverse (only_den words) line (λ z read.
-      let found = only_den-some words z read in
-      record { well_formed = found.small; spelled = behind _ words _ found.spelled }) e
+    let found = only_den-some words z read in
+    record { well_formed = found.small; spelled = behind _ words _ found.spelled }) e
 line_by-takes forms.Multiples words line e =
     mapped-takes _ words lines.Unit (each_of multiplier_of words) line (λ ps read.
-      let found = multipliers-some words ps read in
-      record { well_formed = found.are; spelled = behind _ words _ found.spelled }) e
+    let found = multipliers-some words ps read in
+    record { well_formed = found.are; spelled = behind _ words _ found.spelled }) e
 line_by-takes forms.At words line e =
     mapped-takes _ words lines.At (each_of number_of words) line (λ zs read.
-      let found = numbers-some words zs read in
-      record { well_formed = found.are; spelled = behind _ words _ found.spelled }) e
+    let found = numbers-some words zs read in
+    record { well_formed = found.are; spelled = behind _ words _ found.spelled }) e
 line_by-takes forms.Response words line e =
     mapped-takes _ words lines.Response (each_of number_of words) line (λ zs read.
-      let found = numbers-some words zs read in
-      record { well_formed = found.are; spelled = behind _ words _ found.spelled }) e
+    let found = numbers-some words zs read in
+    record { well_formed = found.are; spelled = behind _ words _ found.spelled }) e
 line_by-takes forms.Tree words line e =
     alone-takes _ words lines.TreeHead line (record { well_formed = tt; spelled = refl }) e
 line_by-takes forms.Close words line e = close-takes words line e
@@ -313,12 +313,12 @@ unfolding line_of_words
 line_of_words-takes [] line e = absurd cc
 line_of_words-takes (word ∷ words) line e =
     option_and_then_some _ (form_of word) line e (λ form found rest.
-      let same = form_of-some word form found in
-      let takes = line_by-takes form words line rest in
-      record {
-        well_formed = takes.well_formed;
-        spelled = ap (λ (w : Bytes). w ∷ words) same ∙ takes.spelled;
-      })
+    let same = form_of-some word form found in
+    let takes = line_by-takes form words line rest in
+    record {
+      well_formed = takes.well_formed;
+      spelled = ap (λ (w : Bytes). w ∷ words) same ∙ takes.spelled;
+    })
 
 -- ---- from a line to its words and back
 

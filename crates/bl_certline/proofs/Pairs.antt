@@ -82,11 +82,11 @@ pair_of-parts : (field : Bytes) (p : ℤ × ℤ) → IsWholeField (before_first 
 pair_of-parts field p index number nonzero =
     elim (cases_lt (position_or_len is_colon field) (length field)) [
       | inl some ↦ record {
-          pair = record { index = index.whole; number = number.whole; nonzero = nonzero };
-          spelled = split_at_colon field some
-              ∙ ap (λ (front : Bytes). front ++ 58 ∷ after_first is_colon field) index.spelled
-              ∙ ap (λ (back : Bytes). signed_decimal p.0 ++ 58 ∷ back) number.spelled;
-        }
+        pair = record { index = index.whole; number = number.whole; nonzero = nonzero };
+        spelled = split_at_colon field some
+            ∙ ap (λ (front : Bytes). front ++ 58 ∷ after_first is_colon field) index.spelled
+            ∙ ap (λ (back : Bytes). signed_decimal p.0 ++ 58 ∷ back) number.spelled;
+      }
       | inr none ↦
           absurd (number-nonempty p.1 number.whole (sym (nothing_behind field none) ∙ number.spelled))
     ]
@@ -96,10 +96,10 @@ pub pair_of-some : (field : Bytes) (p : ℤ × ℤ) → pair_of field ≡ Some p
 unfolding pair_of
 pair_of-some field p e =
     option_and_then_some _ (number_of (before_first is_colon field)) p e (λ i ei rest.
-      option_and_then_some _ (number_of (after_first is_colon field)) p rest (λ m em last.
-        let found = nonzero_pair-some i m p last in
-        subst (IsPairField field) found.1
-        (pair_of-parts field (i, m) (number_of-some _ i ei) (number_of-some _ m em) found.0)))
+    option_and_then_some _ (number_of (after_first is_colon field)) p rest (λ m em last.
+    let found = nonzero_pair-some i m p last in
+    subst (IsPairField field) found.1
+    (pair_of-parts field (i, m) (number_of-some _ i ei) (number_of-some _ m em) found.0)))
 
 pub finds_pair : (field : Bytes) (read : Option (ℤ × ℤ)) → read ≡ pair_of field → Finds (IsPairField field) read
 finds_pair field None e = λ p h.

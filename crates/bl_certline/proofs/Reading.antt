@@ -55,11 +55,11 @@ unfolding number_at
 number_at-some [] x e = absurd cc
 number_at-some (word ∷ words) x e =
     option_and_then_some _ (number_of word) x e (λ z read last.
-      let found = number_of-some word z read in
-      let pair : ℤ × List Bytes = (z, words) in
-      let same : pair ≡ x = cc in
-      subst (λ (y : ℤ × List Bytes). StartsWithNumber (word ∷ words) y.0 y.1) same
-      (record { whole = found.whole; spelled = ap (λ (w : Bytes). w ∷ words) found.spelled }))
+    let found = number_of-some word z read in
+    let pair : ℤ × List Bytes = (z, words) in
+    let same : pair ≡ x = cc in
+    subst (λ (y : ℤ × List Bytes). StartsWithNumber (word ∷ words) y.0 y.1) same
+    (record { whole = found.whole; spelled = ap (λ (w : Bytes). w ∷ words) found.spelled }))
 
 pub only_number-spelled : (z : ℤ) → IsWhole z → only_number (signed_decimal z ∷ []) ≡ Some z
 unfolding only_number
@@ -69,11 +69,11 @@ pub only_number-some : (words : List Bytes) (z : ℤ) → only_number words ≡ 
 unfolding only_number
 only_number-some words z e =
     option_and_then_some _ (number_at words) z e (λ x read last.
-      let found = number_at-some words x read in
-      let alone = cond_some _ _ _ last in
-      let spelled : words ≡ signed_decimal x.0 ∷ [] =
-      found.spelled ∙ ap (λ (rest : List Bytes). signed_decimal x.0 ∷ rest) (none_left x.1 alone.0) in
-      subst (λ (y : ℤ). StartsWithNumber words y []) alone.1 (record { whole = found.whole; spelled = spelled }))
+    let found = number_at-some words x read in
+    let alone = cond_some _ _ _ last in
+    let spelled : words ≡ signed_decimal x.0 ∷ [] =
+    found.spelled ∙ ap (λ (rest : List Bytes). signed_decimal x.0 ∷ rest) (none_left x.1 alone.0) in
+    subst (λ (y : ℤ). StartsWithNumber words y []) alone.1 (record { whole = found.whole; spelled = spelled }))
 
 -- ---- counts and denominators
 
@@ -98,9 +98,9 @@ pub only_count-some : (words : List Bytes) (z : ℤ) → only_count words ≡ So
 unfolding only_count
 only_count-some words z e =
     option_and_then_some _ (only_number words) z e (λ x read last.
-      let tested = cond_some _ _ _ last in
-      subst (IsOnlyCount words) tested.1
-      (record { number = only_number-some words x read; from = test-from_zero x tested.0 }))
+    let tested = cond_some _ _ _ last in
+    subst (IsOnlyCount words) tested.1
+    (record { number = only_number-some words x read; from = test-from_zero x tested.0 }))
 
 pub den_at-spelled : (z : ℤ) (words : List Bytes) → IsProofNumber z
     → den_at (signed_decimal z ∷ words) ≡ Some (z, words)
@@ -119,10 +119,10 @@ pub den_at-some : (words : List Bytes) (x : ℤ × List Bytes) → den_at words 
 unfolding den_at
 den_at-some words x e =
     option_and_then_some _ (number_at words) x e (λ y read last.
-      let found = number_at-some words y read in
-      let tested = cond_some _ _ _ last in
-      subst (λ (z : ℤ × List Bytes). StartsWithDen words z.0 z.1) tested.1
-      (record { small = leb-true _ _ tested.0; spelled = found.spelled }))
+    let found = number_at-some words y read in
+    let tested = cond_some _ _ _ last in
+    subst (λ (z : ℤ × List Bytes). StartsWithDen words z.0 z.1) tested.1
+    (record { small = leb-true _ _ tested.0; spelled = found.spelled }))
 
 pub only_den-spelled : (z : ℤ) → IsProofNumber z → only_den (signed_decimal z ∷ []) ≡ Some z
 unfolding only_den
@@ -132,11 +132,11 @@ pub only_den-some : (words : List Bytes) (z : ℤ) → only_den words ≡ Some z
 unfolding only_den
 only_den-some words z e =
     option_and_then_some _ (den_at words) z e (λ x read last.
-      let found = den_at-some words x read in
-      let alone = cond_some _ _ _ last in
-      let spelled : words ≡ signed_decimal x.0 ∷ [] =
-      found.spelled ∙ ap (λ (rest : List Bytes). signed_decimal x.0 ∷ rest) (none_left x.1 alone.0) in
-      subst (λ (y : ℤ). StartsWithDen words y []) alone.1 (record { small = found.small; spelled = spelled }))
+    let found = den_at-some words x read in
+    let alone = cond_some _ _ _ last in
+    let spelled : words ≡ signed_decimal x.0 ∷ [] =
+    found.spelled ∙ ap (λ (rest : List Bytes). signed_decimal x.0 ∷ rest) (none_left x.1 alone.0) in
+    subst (λ (y : ℤ). StartsWithDen words y []) alone.1 (record { small = found.small; spelled = spelled }))
 
 -- ---- lists
 
@@ -163,15 +163,15 @@ each_of-some Is text read each [] xs e =
     subst (AreWordsOf Is text []) none (record { are = tt; spelled = refl })
 each_of-some {X} Is text read each (word ∷ words) xs e =
     option_and_then_some _ (read word) xs e (λ x first rest.
-      option_and_then_some _ (each_of read words) xs rest (λ ys more last.
-        let one = each word x first in
-        let others = each_of-some Is text read each words ys more in
-        let all : x ∷ ys ≡ xs = cc in
-        subst (AreWordsOf Is text (word ∷ words)) all (record {
-          are = (one.is, others.are);
-          spelled = ap (λ (w : Bytes). w ∷ words) one.spelled
-              ∙ ap (λ (ws : List Bytes). text x ∷ ws) others.spelled;
-        })))
+    option_and_then_some _ (each_of read words) xs rest (λ ys more last.
+    let one = each word x first in
+    let others = each_of-some Is text read each words ys more in
+    let all : x ∷ ys ≡ xs = cc in
+    subst (AreWordsOf Is text (word ∷ words)) all (record {
+      are = (one.is, others.are);
+      spelled = ap (λ (w : Bytes). w ∷ words) one.spelled
+          ∙ ap (λ (ws : List Bytes). text x ∷ ws) others.spelled;
+    })))
 
 pub numbers-spelled : (zs : List ℤ) → AreWhole zs → each_of number_of (number_words zs) ≡ Some zs
 numbers-spelled zs h = each_of-spelled IsWhole signed_decimal number_of number_of-spelled zs h
@@ -192,10 +192,10 @@ multiplier_of-some : (word : Bytes) (p : ℤ × ℤ) → multiplier_of word ≡ 
 unfolding multiplier_of
 multiplier_of-some word p e =
     option_and_then_some _ (pair_of word) p e (λ q read last.
-      let found = pair_of-some word q read in
-      let tested = cond_some _ _ _ last in
-      subst (IsWordOf IsMultiplier pair_word word) tested.1
-      (record { is = (found.pair, leb-true _ _ tested.0); spelled = found.spelled }))
+    let found = pair_of-some word q read in
+    let tested = cond_some _ _ _ last in
+    subst (IsWordOf IsMultiplier pair_word word) tested.1
+    (record { is = (found.pair, leb-true _ _ tested.0); spelled = found.spelled }))
 
 pub multipliers-spelled : (ps : List (ℤ × ℤ)) → AreMultipliers ps → each_of multiplier_of (pair_words ps) ≡ Some ps
 multipliers-spelled ps h = each_of-spelled IsMultiplier pair_word multiplier_of multiplier_of-spelled ps h
@@ -248,12 +248,12 @@ unfolding item_of
 item_of-some [] t e = absurd cc
 item_of-some (letter ∷ digits) t e =
     option_and_then_some _ (number_of digits) t e (λ place read last.
-      let found = number_of-some digits place read in
-      let item = item_at-some letter place t last in
-      record {
-        is = subst IsWhole (sym item.same) found.whole;
-        spelled = ap (λ (ds : Bytes). letter ∷ ds) found.spelled ∙ item.spelled;
-      })
+    let found = number_of-some digits place read in
+    let item = item_at-some letter place t last in
+    record {
+      is = subst IsWhole (sym item.same) found.whole;
+      spelled = ap (λ (ds : Bytes). letter ∷ ds) found.spelled ∙ item.spelled;
+    })
 
 pub items-spelled : (ts : List TightItem) → AllByRecursion (λ t. IsWhole (place_of t)) ts
     → each_of item_of (map item_word ts) ≡ Some ts
@@ -287,29 +287,29 @@ record IsSideOf (lo hi : Bytes) (s : ℤ × ℤ) : Type 0 where
 side_of-some : (lo hi : Bytes) (s : ℤ × ℤ) → side_of lo (Some hi) ≡ Some s → IsSideOf lo hi s
 side_of-some lo hi s e =
     option_and_then_some _ (number_of lo) s e (λ l first rest.
-      option_and_then_some _ (number_of hi) s rest (λ h second last.
-        let low = number_of-some lo l first in
-        let high = number_of-some hi h second in
-        let pair : ℤ × ℤ = (l, h) in
-        let same : pair ≡ s = cc in
-        subst (IsSideOf lo hi) same
-        (record { are = (low.whole, high.whole); low = low.spelled; high = high.spelled })))
+    option_and_then_some _ (number_of hi) s rest (λ h second last.
+    let low = number_of-some lo l first in
+    let high = number_of-some hi h second in
+    let pair : ℤ × ℤ = (l, h) in
+    let same : pair ≡ s = cc in
+    subst (IsSideOf lo hi) same
+    (record { are = (low.whole, high.whole); low = low.spelled; high = high.spelled })))
 
 pub sides-some : (words : List Bytes) (ss : List (ℤ × ℤ)) → sides_of words ≡ Some ss → IsWordsOfSides words ss
 sides-some [] ss e = let none : [] ≡ ss = cc in subst (IsWordsOfSides []) none (record { are = tt; spelled = refl })
 sides-some (lo ∷ []) ss e = absurd cc
 sides-some (lo ∷ hi ∷ words) ss e =
     option_and_then_some _ (side_of lo (Some hi)) ss e (λ s first rest.
-      option_and_then_some _ (sides_of words) ss rest (λ others more last.
-        let one = side_of-some lo hi s first in
-        let back = sides-some words others more in
-        let all : s ∷ others ≡ ss = cc in
-        subst (IsWordsOfSides (lo ∷ hi ∷ words)) all (record {
-          are = (one.are, back.are);
-          spelled = ap (λ (w : Bytes). w ∷ hi ∷ words) one.low
-              ∙ ap (λ (w : Bytes). signed_decimal s.0 ∷ w ∷ words) one.high
-              ∙ ap (λ (ws : List Bytes). signed_decimal s.0 ∷ signed_decimal s.1 ∷ ws) back.spelled;
-        })))
+    option_and_then_some _ (sides_of words) ss rest (λ others more last.
+    let one = side_of-some lo hi s first in
+    let back = sides-some words others more in
+    let all : s ∷ others ≡ ss = cc in
+    subst (IsWordsOfSides (lo ∷ hi ∷ words)) all (record {
+      are = (one.are, back.are);
+      spelled = ap (λ (w : Bytes). w ∷ hi ∷ words) one.low
+          ∙ ap (λ (w : Bytes). signed_decimal s.0 ∷ w ∷ words) one.high
+          ∙ ap (λ (ws : List Bytes). signed_decimal s.0 ∷ signed_decimal s.1 ∷ ws) back.spelled;
+    })))
 
 -- ---- cuts
 
@@ -333,16 +333,16 @@ numbers_at-some zero words x e =
     (record { are = tt; spelled = refl; counted = refl })
 numbers_at-some (suc count) words x e =
     option_and_then_some _ (number_at words) x e (λ y first rest.
-      option_and_then_some _ (numbers_at count y.1) x rest (λ more others last.
-        let one = number_at-some words y first in
-        let back = numbers_at-some count y.1 more others in
-        let all : List ℤ × List Bytes = (y.0 ∷ more.0, more.1) in
-        let same : all ≡ x = cc in
-        subst (λ (z : List ℤ × List Bytes). StartsWithNumbers words z.0 z.1 (suc count)) same (record {
-          are = (one.whole, back.are);
-          spelled = one.spelled ∙ ap (λ (ws : List Bytes). signed_decimal y.0 ∷ ws) back.spelled;
-          counted = ap (λ (n : ℕ). suc n) back.counted;
-        })))
+    option_and_then_some _ (numbers_at count y.1) x rest (λ more others last.
+    let one = number_at-some words y first in
+    let back = numbers_at-some count y.1 more others in
+    let all : List ℤ × List Bytes = (y.0 ∷ more.0, more.1) in
+    let same : all ≡ x = cc in
+    subst (λ (z : List ℤ × List Bytes). StartsWithNumbers words z.0 z.1 (suc count)) same (record {
+      are = (one.whole, back.are);
+      spelled = one.spelled ∙ ap (λ (ws : List Bytes). signed_decimal y.0 ∷ ws) back.spelled;
+      counted = ap (λ (n : ℕ). suc n) back.counted;
+    })))
 
 pub record StartsWithCuts (count : ℤ) (words : List Bytes) (cuts : List ℤ) (rest : List Bytes) : Type 0 where
   pub are : AreWhole cuts

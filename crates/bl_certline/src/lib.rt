@@ -19,3 +19,6 @@ pub use fields::{next_line, pair_field, whole_field};
 pub use line::{CertLine, TightItem};
 pub use put::put_line;
 pub use read::{pairs_rise, read_line, read_spelled};
+
+#[cfg(test)]
+mod tests;

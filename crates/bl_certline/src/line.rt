@@ -8,43 +8,78 @@ use bl_raw::Listed;
 #[derive(Debug, Drop)]
 pub enum CertLine {
     /// `mibs-certificate NUMBER`
-    Version { number: i64 },
+    Version {
+        number: i64,
+    },
     /// `sense max`, or `sense min`
-    Sense { maximise: bool },
+    Sense {
+        maximise: bool,
+    },
     /// `states optimal VALUE`
-    StatesOptimal { value: i64 },
+    StatesOptimal {
+        value: i64,
+    },
     /// `states infeasible`
     StatesInfeasible,
     /// `point z..`, a number for each column
-    Point { values: Listed<i64> },
+    Point {
+        values: Listed<i64>,
+    },
     /// `entries COUNT`
-    Entries { count: i64 },
+    Entries {
+        count: i64,
+    },
     /// `entry l..`, a number for each linking column
-    EntryHead { link: Listed<i64> },
+    EntryHead {
+        link: Listed<i64>,
+    },
     /// `best VALUE y..`, the follower's least cost and a response of that cost
-    Best { value: i64, response: Listed<i64> },
+    Best {
+        value: i64,
+        response: Listed<i64>,
+    },
     /// `none`, for a link without a response
     NoAnswer,
     /// `split COLUMN AT`
-    Split { column: i64, at: i64 },
+    Split {
+        column: i64,
+        at: i64,
+    },
     /// `proof DEN i:m..`, a denominator, and multipliers of rows
-    Proof { den: i64, mult: Listed<(i64, i64)> },
+    Proof {
+        den: i64,
+        mult: Listed<(i64, i64)>,
+    },
     /// `cuts COUNT`
-    CutCount { count: i64 },
+    CutCount {
+        count: i64,
+    },
     /// `cut`
     CutHead,
     /// `box lo hi lo hi ..`, both sides for each column
-    Area { sides: Listed<(i64, i64)> },
+    Area {
+        sides: Listed<(i64, i64)>,
+    },
     /// `tight t..`
-    TightList { items: Listed<TightItem> },
+    TightList {
+        items: Listed<TightItem>,
+    },
     /// `inverse DEN`
-    Inverse { den: i64 },
+    Inverse {
+        den: i64,
+    },
     /// `unit i:m..`, for one column: places among the tight items, and their numbers
-    Unit { pairs: Listed<(i64, i64)> },
+    Unit {
+        pairs: Listed<(i64, i64)>,
+    },
     /// `at z..`, a number for each column
-    At { values: Listed<i64> },
+    At {
+        values: Listed<i64>,
+    },
     /// `response y..`, a number for each follower column
-    Response { values: Listed<i64> },
+    Response {
+        values: Listed<i64>,
+    },
     /// `tree`
     TreeHead,
     /// `close DEN V COUNT c.. i:m..`, where V is `v` with the value row and `-` without it, COUNT is the count of the

@@ -68,10 +68,7 @@ pub(crate) fn only_number(words: Words<'_>) -> Option<i64>
 }
 
 /// The numbers that the words are.
-pub(crate) fn numbers_of(
-    alloc: Global,
-    words: Words<'_>,
-) -> Result<Option<Listed<i64>>, AllocError>
+pub(crate) fn numbers_of(alloc: Global, words: Words<'_>) -> Result<Option<Listed<i64>>, AllocError>
     ensures { IfOk result (λ numbers. numbers ≡ each_of number_of words.entry) }
 {
     let mut numbers = Vec::new(alloc);
