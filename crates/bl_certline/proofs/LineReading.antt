@@ -1,11 +1,11 @@
 -- A well-formed line is read from its spelling, and what is read is spelled so.
-use Rattle.std.proofs.Common.{◌≡◌, ℕ, Bool, true, false, cond, List, [], ◌∷◌, ◌++◌, length, map, Option, Some, None}
-use Rattle.std.proofs.Common.{refl, sym, ap, subst, ◌∙◌, arith, codes, ◌&&◌, ℤ, pos, find}
+use Rattle.std.proofs.Common.{◌≡◌, Bool, true, false, cond, List, [], ◌∷◌, ◌++◌, Option, Some, None}
+use Rattle.std.proofs.Common.{refl, sym, ap, subst, ◌∙◌, codes, ◌&&◌, ℤ, find}
 use Rattle.std.specs.Prelude.{◌↔◌, IsTrue}
 use Rattle.std.specs.Bool.{then_some}
 use Rattle.std.specs.Fmt.{signed_decimal}
 use Rattle.std.specs.Option.{option_map, option_and_then}
-use Rattle.std.specs.List.{AllByRecursion, join_with_byte}
+use Rattle.std.specs.List.{join_with_byte}
 use Rattle.std.specs.Str.{bytes_eq}
 use Rattle.std.proofs.lemmas.Bool.{false≢true}
 use Rattle.std.proofs.lemmas.List.Splits.{join_with_byte-slice_split}
@@ -16,12 +16,12 @@ use Rattle.bl_certline.specs.declared.form.Form.TheVariants as forms
 use Rattle.bl_certline.specs.declared.form.TheConstants.{FORMS}
 use Rattle.bl_certline.specs.declared.line.CertLine.{CertLine}
 use Rattle.bl_certline.specs.declared.line.CertLine.TheVariants as lines
-use Rattle.bl_certline.specs.declared.line.TightItem.{TightItem}
-use Rattle.bl_certline.specs.Fields.{Bytes, Finds, IsWhole, pair_word}
+use Rattle.bl_certline.specs.Fields.{Bytes, Finds, IsWhole}
 use Rattle.bl_certline.specs.FieldValues.{number_of}
 use Rattle.bl_certline.specs.Forms.{form_of, word_of}
-use Rattle.bl_certline.specs.Lines.{AreMultipliers, AreWhole, IsCanonical, IsMultiplier, IsProofNumber, IsSpelled, IsWellFormed, PairsRise}
-use Rattle.bl_certline.specs.Lines.{item_word, number_words, pair_words, place_of, sense_word, spelling, value_mark, words_of}
+use Rattle.bl_certline.specs.Lines.{AreMultipliers, AreWhole, IsCanonical, IsProofNumber, IsSpelled, IsWellFormed}
+use Rattle.bl_certline.specs.Lines.{PairsRise}
+use Rattle.bl_certline.specs.Lines.{number_words, pair_words, sense_word, spelling, value_mark, words_of}
 use Rattle.bl_certline.specs.LineValues.{best_line, close_head, close_line, cuts_at, den_at, each_of, guarded, item_of}
 use Rattle.bl_certline.specs.LineValues.{line_by, line_of_words, multiplier_of, number_at, only_count, only_den}
 use Rattle.bl_certline.specs.LineValues.{only_number, proof_line, sense_line, sense_of, sides_of, split_line}
@@ -29,11 +29,12 @@ use Rattle.bl_certline.specs.LineValues.{statement_of, states_line, value_row_of
 use Rattle.bl_certline.specs.SplitWords.{first_word, is_empty, split_words}
 use Rattle.bl_certline.proofs.LineWords.{split_words-spelling}
 use Rattle.bl_certline.proofs.Numbers.{and_true}
-use Rattle.bl_certline.proofs.Reading.{AreWordsOf, cuts_at-some, cuts_at-spelled, den_at-some, den_at-spelled}
+use Rattle.bl_certline.proofs.Reading.{cuts_at-some, cuts_at-spelled, den_at-some, den_at-spelled}
 use Rattle.bl_certline.proofs.Reading.{items-some, items-spelled, multipliers-some, multipliers-spelled, none_left}
 use Rattle.bl_certline.proofs.Reading.{number_at-some, number_at-spelled, numbers-some, numbers-spelled}
 use Rattle.bl_certline.proofs.Reading.{only_count-some, only_count-spelled, only_den-some, only_den-spelled}
-use Rattle.bl_certline.proofs.Reading.{only_number-some, only_number-spelled, option_map_some, sides-some, sides-spelled}
+use Rattle.bl_certline.proofs.Reading.{only_number-some, only_number-spelled, option_map_some, sides-some}
+use Rattle.bl_certline.proofs.Reading.{sides-spelled}
 
 -- a line is well formed, and these are its words
 pub record Takes (words : List Bytes) (line : CertLine) : Type 0 where
@@ -57,7 +58,8 @@ alone-takes head words made line h e =
 
 -- ---- lines of numbers
 
-mapped-takes : {X : Type 0} (head : Bytes) (words : List Bytes) (make : X → CertLine) (read : Option X) (line : CertLine)
+mapped-takes : {X : Type 0} (head : Bytes) (words : List Bytes) (make : X → CertLine) (read : Option X)
+    (line : CertLine)
     → ((x : X) → read ≡ Some x → Takes (head ∷ words) (make x)) → option_map make read ≡ Some line
     → Takes (head ∷ words) line
 mapped-takes head words make read line each e =
@@ -188,7 +190,8 @@ record IsHead (words : List Bytes) (head : ℤ × Bool × ℤ × List Bytes) : T
 head-rest : (den : ℤ × List Bytes) (words : List Bytes) (head : ℤ × Bool × ℤ × List Bytes) (marked : List Bytes)
     → den.1 ≡ marked → IsProofNumber den.0 → words ≡ signed_decimal den.0 ∷ den.1
     → option_and_then (λ mark. option_and_then (λ value_row. option_and_then (λ count.
-    Some (den.0, value_row, count.0, count.1)) (number_at mark.1)) (value_row_of mark.0)) (first_word marked) ≡ Some head
+    Some (den.0, value_row, count.0, count.1)) (number_at mark.1)) (value_row_of mark.0)) (first_word marked)
+    ≡ Some head
     → IsHead words head
 head-rest den words head [] same small spelled e = absurd cc
 head-rest den words head (mark ∷ others) same small spelled e =
@@ -455,4 +458,5 @@ finds-risen bytes line false h risen = λ other k.
 -- what is read and has rising pairs is the canonical line whose spelling the bytes are
 pub finds_canonical : (bytes : Bytes) (line : CertLine) (rises : Bool) (read : Option CertLine) → IsSpelled bytes line
     → IsTrue rises ↔ PairsRise line → read ≡ then_some rises line → Finds (IsCanonical bytes) read
-finds_canonical bytes line rises read h risen e = subst (Finds (IsCanonical bytes)) (sym e) (finds-risen bytes line rises h risen)
+finds_canonical bytes line rises read h risen e =
+    subst (Finds (IsCanonical bytes)) (sym e) (finds-risen bytes line rises h risen)

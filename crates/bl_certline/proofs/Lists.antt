@@ -1,5 +1,5 @@
 -- Lists that are read word by word.
-use Rattle.std.proofs.Common.{◌≡◌, ℕ, suc, ◌+◌, ◌-◌, ◌<◌, List, [], ◌∷◌, ◌++◌, Option, Some, None, refl, sym, ap, ◌∙◌}
+use Rattle.std.proofs.Common.{◌≡◌, ℕ, suc, List, [], ◌∷◌, ◌++◌, Option, Some, None, refl, sym, ap}
 use Rattle.std.proofs.Common.{append_assoc, Bor, ℤ}
 use Rattle.std.specs.Iterator.{YieldsFirstRef}
 use Rattle.std.specs.Option.{option_copied, option_map}
@@ -23,7 +23,8 @@ with_front-cons front x (Some xs) = ap Some (sym (append_assoc front (x ∷ []) 
 
 -- a word more is read
 pub each_of-more : {X : Type 0} (read : Bytes → Option X) (front : List X) (word : Bytes) (words : List Bytes) (x : X)
-    → Some x ≡ read word → with_front front (each_of read (word ∷ words)) ≡ with_front (front ++ x ∷ []) (each_of read words)
+    → Some x ≡ read word
+    → with_front front (each_of read (word ∷ words)) ≡ with_front (front ++ x ∷ []) (each_of read words)
 each_of-more read front word words x e = rw (sym e) (with_front-cons front x (each_of read words))
 
 -- a word isn't read

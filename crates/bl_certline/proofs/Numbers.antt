@@ -1,12 +1,11 @@
 -- The number that a field spells.
-use Rattle.std.proofs.Common.{◌≡◌, ℕ, suc, ◌+◌, ◌^◌, ◌<◌, ◌≤◌, Bool, true, false, cond, eqb, List, [], ◌∷◌, get_or}
+use Rattle.std.proofs.Common.{◌≡◌, ℕ, suc, ◌^◌, ◌<◌, Bool, true, false, [], ◌∷◌}
 use Rattle.std.proofs.Common.{length, Option, Some, None, refl, sym, ap, subst, ◌∙◌, arith, ◌&&◌, ℤ, pos, negsuc, neg_ℤ}
 use Rattle.std.specs.Fmt.{decimal, signed_decimal}
-use Rattle.std.specs.Str.{bytes_eq}
 use Rattle.std.specs.Prelude.{FitsSigned, IfSome, IfNone}
 use Rattle.std.specs.Int.{w64}
 use Rattle.std.specs.List.{AllByRecursion}
-use Rattle.std.specs.Str.Parse.{AllDigits, starts_with_minus, digits_value}
+use Rattle.std.specs.Str.Parse.{AllDigits, starts_with_minus}
 use Rattle.std.proofs.lemmas.Bool.{lt-ltb, ltb-true, ne_eqb}
 use Rattle.std.proofs.lemmas.Fmt.{decimal_is_IsNumeral, decimal_nonempty}
 use Rattle.std.proofs.lemmas.Option.{cond_some}
@@ -31,7 +30,8 @@ number_of-at : (field : Bytes) (z : ℤ) → worth_of field ≡ z → IsWhole z 
     → number_of field ≡ Some z
 unfolding number_of
 number_of-at field z worth whole spelled =
-    rw (worth, lt-ltb (size_of z) (2 ^ 63) (whole-size z whole), (bytes_eq-Decides (signed_decimal z) field).1 spelled) refl
+    let same = (bytes_eq-Decides (signed_decimal z) field).1 spelled in
+    rw (worth, lt-ltb (size_of z) (2 ^ 63) (whole-size z whole), same) refl
 
 worth_of-decimal : (n : ℕ) → n < 2 ^ 64 → worth_of (decimal n) ≡ pos n
 worth_of-decimal n small =
@@ -57,7 +57,8 @@ number_of-some field z e =
     let both = and_true _ _ read.0 in
     let small = ltb-true (size_of (worth_of field)) (2 ^ 63) both.0 in
     let spelled = (bytes_eq-Decides (signed_decimal (worth_of field)) field).0 both.1 in
-    subst (λ (v : ℤ). IsWholeField field v) read.1 (record { whole = whole-from_size (worth_of field) small; spelled = sym spelled })
+    subst (λ (v : ℤ). IsWholeField field v) read.1
+    (record { whole = whole-from_size (worth_of field) small; spelled = sym spelled })
 
 pub number_of-none : (field : Bytes) → number_of field ≡ None → (z : ℤ) → IsWholeField field z → ⊥
 number_of-none field e z h =

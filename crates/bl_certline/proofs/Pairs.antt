@@ -1,17 +1,17 @@
 -- The pair that a field spells.
-use Rattle.std.proofs.Common.{◌≡◌, ◌≢◌, ℕ, ◌+◌, ◌<◌, ◌≤◌, Bool, true, false, cond, eqb, List, [], ◌∷◌, ◌++◌, length}
-use Rattle.std.proofs.Common.{get_or, take, drop, position, Option, Some, None, refl, sym, ap, subst, ◌∙◌, arith, ℤ, pos, inl, inr}
+use Rattle.std.proofs.Common.{◌≡◌, ◌≢◌, ℕ, ◌+◌, ◌<◌, ◌≤◌, Bool, true, false, cond, [], ◌∷◌, ◌++◌, length}
+use Rattle.std.proofs.Common.{get_or, position, Option, Some, None, refl, sym, ap, subst, ◌∙◌, arith, ℤ, pos, inl, inr}
 use Rattle.std.specs.Fmt.{signed_decimal}
 use Rattle.std.specs.List.{AllByRecursion, position_or_len, before_first, after_first}
 use Rattle.std.specs.Ordering.{int_eq}
 use Rattle.std.proofs.Math.Seq.{take-append_seam, drop-append-add}
-use Rattle.std.proofs.lemmas.Bool.{cases_lt, eqb-true, lt-ltb, ltb-true, ne_eqb, false≢true}
+use Rattle.std.proofs.lemmas.Bool.{cases_lt, eqb-true, lt-ltb, ne_eqb, false≢true}
 use Rattle.std.proofs.lemmas.Bool.Decides.{Decides-int_eq}
 use Rattle.std.proofs.lemmas.List.{drop_all}
 use Rattle.std.proofs.lemmas.List.Quantifiers.{position-Some}
 use Rattle.std.proofs.lemmas.List.Sums.{split_at_first}
 use Rattle.std.proofs.lemmas.Option.{option_and_then_some}
-use Rattle.bl_certline.specs.Fields.{Bytes, Finds, IsPair, IsPairField, IsWhole, IsWholeField, pair_word}
+use Rattle.bl_certline.specs.Fields.{Bytes, Finds, IsPair, IsPairField, IsWholeField, pair_word}
 use Rattle.bl_certline.specs.FieldValues.{is_colon, nonzero_pair, number_of, pair_of}
 use Rattle.bl_certline.proofs.Numbers.{IsPlainByte, number-nonempty, number-plain, number_of-some, number_of-spelled}
 
@@ -52,7 +52,8 @@ nothing_behind bytes none = drop_all (position_or_len is_colon bytes + 1) bytes 
 
 nonzero_pair-some : (i m : ℤ) (p : ℤ × ℤ) → nonzero_pair i m ≡ Some p → (m ≢ pos 0) × ((i, m) ≡ p)
 nonzero_pair-some i m p e =
-    elim (int_eq m (pos 0)) as (λ t. int_eq m (pos 0) ≡ t → cond t None (Some (i, m)) ≡ Some p → (m ≢ pos 0) × ((i, m) ≡ p)) [
+    elim (int_eq m (pos 0)) as (λ t. int_eq m (pos 0) ≡ t → cond t None (Some (i, m)) ≡ Some p
+    → (m ≢ pos 0) × ((i, m) ≡ p)) [
       | true ↦ λ t f. absurd cc
       | false ↦ λ t f. ((λ z. false≢true (sym t ∙ (Decides-int_eq m (pos 0)).1 z)), cc)
     ] refl e

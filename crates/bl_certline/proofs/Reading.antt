@@ -1,29 +1,25 @@
 -- A line is read from its words, and what is read has these words.
-use Rattle.std.proofs.Common.{◌≡◌, ℕ, zero, suc, ◌+◌, ◌≤◌, Bool, true, false, cond, List, [], ◌∷◌, ◌++◌, length, map}
-use Rattle.std.proofs.Common.{Option, Some, None, refl, sym, ap, subst, ◌∙◌, arith, codes, ◌&&◌, ℤ, pos, negsuc, ◌≤ℤ◌}
+use Rattle.std.proofs.Common.{◌≡◌, ℕ, zero, suc, true, false, cond, List, [], ◌∷◌, ◌++◌, length, map}
+use Rattle.std.proofs.Common.{Option, Some, None, refl, sym, ap, subst, ◌∙◌, arith, ℤ, pos, negsuc, ◌≤ℤ◌}
 use Rattle.std.proofs.Common.{unsigned_abs, eqb}
 use Rattle.std.specs.Prelude.{int_le}
 use Rattle.std.specs.Fmt.{signed_decimal}
-use Rattle.std.specs.Option.{option_map, option_and_then}
-use Rattle.std.specs.List.{AllByRecursion, flat_map}
-use Rattle.std.specs.Str.{bytes_eq}
+use Rattle.std.specs.Option.{option_map}
+use Rattle.std.specs.List.{AllByRecursion}
 use Rattle.std.proofs.lemmas.Bool.{eqb-true, leb-true, le-leb}
 use Rattle.std.proofs.lemmas.Int.{ints}
 use Rattle.std.proofs.lemmas.Option.{cond_some, option_and_then_some}
-use Rattle.std.proofs.lemmas.Slice.Eq.{bytes_eq-Decides}
 use Rattle.bl_limits.specs.declared.TheConstants.{MAX_PROOF_NUMBER}
-use Rattle.bl_certline.specs.declared.line.CertLine.{CertLine}
-use Rattle.bl_certline.specs.declared.line.CertLine.TheVariants as lines
 use Rattle.bl_certline.specs.declared.line.TightItem.{TightItem}
 use Rattle.bl_certline.specs.declared.line.TightItem.TheVariants as items
-use Rattle.bl_certline.specs.Fields.{Bytes, IsPair, IsPairField, IsWhole, IsWholeField, pair_word}
-use Rattle.bl_certline.specs.FieldValues.{◌>>=◌, number_of, pair_of}
+use Rattle.bl_certline.specs.Fields.{Bytes, IsWhole, pair_word}
+use Rattle.bl_certline.specs.FieldValues.{number_of, pair_of}
 use Rattle.bl_certline.specs.Lines.{AreMultipliers, AreWhole, IsMultiplier, IsProofNumber, item_word, number_words}
 use Rattle.bl_certline.specs.Lines.{pair_words, place_of, side_words}
-use Rattle.bl_certline.specs.LineValues.{cuts_at, den_at, each_of, guarded, is_proof_number, item_at, item_of}
+use Rattle.bl_certline.specs.LineValues.{cuts_at, den_at, each_of, item_at, item_of}
 use Rattle.bl_certline.specs.LineValues.{multiplier_of, number_at, numbers_at, only_count, only_den, only_number}
 use Rattle.bl_certline.specs.LineValues.{side_of, sides_of}
-use Rattle.bl_certline.specs.SplitWords.{first_word, is_empty}
+use Rattle.bl_certline.specs.SplitWords.{is_empty}
 use Rattle.bl_certline.proofs.LineWords.{whole_from_proof_number}
 use Rattle.bl_certline.proofs.Numbers.{number_of-some, number_of-spelled}
 use Rattle.bl_certline.proofs.Pairs.{pair_of-some, pair_of-spelled}
@@ -41,7 +37,8 @@ none_left (word ∷ words) e = absurd cc
 
 -- ---- numbers
 
-pub number_at-spelled : (z : ℤ) (words : List Bytes) → IsWhole z → number_at (signed_decimal z ∷ words) ≡ Some (z, words)
+pub number_at-spelled : (z : ℤ) (words : List Bytes) → IsWhole z
+    → number_at (signed_decimal z ∷ words) ≡ Some (z, words)
 unfolding number_at
 number_at-spelled z words whole = rw (number_of-spelled z whole) refl
 
@@ -145,7 +142,9 @@ pub record IsWordOf {X : Type 0} (Is : X → Type 0) (text : X → Bytes) (word 
   pub is : Is x
   pub spelled : word ≡ text x
 
-pub record AreWordsOf {X : Type 0} (Is : X → Type 0) (text : X → Bytes) (words : List Bytes) (xs : List X) : Type 0 where
+-- the words are the values'
+pub record AreWordsOf {X : Type 0} (Is : X → Type 0) (text : X → Bytes) (words : List Bytes) (xs : List X)
+    : Type 0 where
   pub are : AllByRecursion Is xs
   pub spelled : words ≡ map text xs
 
@@ -222,7 +221,8 @@ other_letter : (letter code : ℕ) (place : ℤ) (item t : TightItem) (rest : Op
     → (letter ≡ code → IsItem letter place item) → (rest ≡ Some t → IsItem letter place t)
     → cond (eqb letter code) (Some item) rest ≡ Some t → IsItem letter place t
 other_letter letter code place item t rest this other e =
-    elim (eqb letter code) as (λ test. eqb letter code ≡ test → cond test (Some item) rest ≡ Some t → IsItem letter place t) [
+    elim (eqb letter code) as (λ test. eqb letter code ≡ test → cond test (Some item) rest ≡ Some t
+    → IsItem letter place t) [
       | true ↦ λ test f. let same : item ≡ t = cc in subst (IsItem letter place) same (this (eqb-true letter code test))
       | false ↦ λ test f. other f
     ] refl e

@@ -1,15 +1,14 @@
 -- The spelling of a line, piece by piece.
-use Rattle.std.proofs.Common.{◌≡◌, ℕ, Bool, List, [], ◌∷◌, ◌++◌, map, refl, sym, ap, ◌∙◌, append_assoc, codes, ℤ}
+use Rattle.std.proofs.Common.{◌≡◌, Bool, List, [], ◌∷◌, ◌++◌, map, refl, sym, ap, ◌∙◌, append_assoc, codes, ℤ}
 use Rattle.std.specs.List.{flat_map, join_with_byte}
 use Rattle.std.specs.Fmt.{signed_decimal}
 use Rattle.std.proofs.lemmas.List.{append-nil}
 use Rattle.bl_certline.specs.declared.line.CertLine.{CertLine}
 use Rattle.bl_certline.specs.declared.line.CertLine.TheVariants as lines
-use Rattle.bl_certline.specs.declared.line.TightItem.{TightItem}
 use Rattle.bl_certline.specs.Fields.{Bytes, pair_word}
-use Rattle.bl_certline.specs.Lines.{item_word, number_words, pair_words, side_words, spelling, value_mark, words_of}
-use Rattle.bl_certline.specs.Spelled.{behind, close_head_text, close_text, items_text, line_text, numbers_text}
-use Rattle.bl_certline.specs.Spelled.{pairs_text, side_text, sides_text}
+use Rattle.bl_certline.specs.Lines.{item_word, number_words, pair_words, side_words, spelling, value_mark}
+use Rattle.bl_certline.specs.Spelled.{behind, close_head_text, close_text, line_text, numbers_text}
+use Rattle.bl_certline.specs.Spelled.{pairs_text, sides_text}
 
 -- words with a space before each
 abbrev spaced : List Bytes → Bytes

@@ -1,9 +1,9 @@
 -- The words that stand between the spaces of a line.
-use Rattle.std.proofs.Common.{◌≡◌, ℕ, ◌+◌, ◌<◌, ◌≤◌, Bool, true, false, cond, eqb, ltb, List, [], ◌∷◌, length, get_or}
+use Rattle.std.proofs.Common.{◌≡◌, ℕ, ◌+◌, Bool, true, false, cond, eqb, ltb, List, [], ◌∷◌, length}
 use Rattle.std.proofs.Common.{take, drop, position, Option, Some, None, refl, sym, ap, ◌∙◌, arith}
 use Rattle.std.proofs.Common.{Bor, not}
 use Rattle.std.specs.Option.{is_some, option_copied}
-use Rattle.std.specs.List.{onto_first, slice_split, position_or_len, before_first, after_first}
+use Rattle.std.specs.List.{onto_first, position_or_len}
 use Rattle.std.proofs.lemmas.Bool.{ltb-false, ltb-true}
 use Rattle.std.proofs.lemmas.List.Splits.{slice_split_first, slice_split_none}
 use Rattle.std.proofs.lemmas.List.Sums.{fails_before_first}
@@ -36,7 +36,8 @@ onto_first-some : (b : ℕ) (words : List Bytes) → is_empty (onto_first b word
 onto_first-some b [] = refl
 onto_first-some b (word ∷ words) = refl
 
-split-some : (b : ℕ) (line : Bytes) (test : Bool) → is_empty (cond test ([] ∷ split_words line) (onto_first b (split_words line))) ≡ false
+split-some : (b : ℕ) (line : Bytes) (test : Bool)
+    → is_empty (cond test ([] ∷ split_words line) (onto_first b (split_words line))) ≡ false
 split-some b line true = refl
 split-some b line false = onto_first-some b (split_words line)
 

@@ -1,5 +1,5 @@
 -- Internal. The forms of lines, each with its first word.
-use Rattle.std.specs.Prelude.{List, find, Option, codes}
+use Rattle.std.specs.Prelude.{find, Option, codes}
 use Rattle.std.specs.Str.{bytes_eq}
 use Rattle.bl_certline.specs.declared.form.TheConstants.{FORMS}
 use Rattle.bl_certline.specs.declared.form.Form.{Form}

@@ -1,7 +1,8 @@
 -- Internal. What a line is read as, as a function of its words.
-use Rattle.std.specs.Prelude.{ℕ, zero, suc, Bool, true, false, ◌≤◌, List, [], ◌∷◌, ◌++◌, ℤ, pos, negsuc, nat_le, unsigned_abs, Option, ◌==◌, ◌&&◌, int_le}
+use Rattle.std.specs.Prelude.{ℕ, zero, suc, Bool, true, false, List, [], ◌∷◌, ℤ, pos, negsuc, nat_le, unsigned_abs}
+use Rattle.std.specs.Prelude.{Option, ◌==◌, ◌&&◌, int_le}
 use Rattle.std.specs.Prelude.{Some, None, codes, if◌then◌else◌}
-use Rattle.std.specs.Option.{option_map, option_and_then}
+use Rattle.std.specs.Option.{option_map}
 use Rattle.std.specs.Str.{bytes_eq}
 use Rattle.bl_limits.specs.declared.TheConstants.{MAX_PROOF_NUMBER}
 use Rattle.bl_certline.specs.declared.line.CertLine.{CertLine}

@@ -1,5 +1,5 @@
 -- Trusted. The lines of a certificate, and the one spelling of each.
-use Rattle.std.specs.Prelude.{◌≡◌, ℕ, ◌≤◌, Bool, List, [], ◌∷◌, ◌++◌, length, map, ℤ, pos, ◌≤ℤ◌, ◌<ℤ◌, unsigned_abs, codes}
+use Rattle.std.specs.Prelude.{◌≡◌, ◌≤◌, Bool, List, [], ◌∷◌, ◌++◌, length, map, ℤ, pos, ◌≤ℤ◌, ◌<ℤ◌, unsigned_abs, codes}
 use Rattle.std.specs.Prelude.{⊤, if◌then◌else◌}
 use Rattle.std.specs.List.{AllAdjacentBelow, AllByRecursion, flat_map, join_with_byte}
 use Rattle.std.specs.Fmt.{signed_decimal}

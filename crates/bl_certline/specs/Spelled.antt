@@ -1,5 +1,5 @@
 -- Internal. The spelling of a line as it is put at the end of a text, piece by piece.
-use Rattle.std.specs.Prelude.{Bool, List, [], ◌∷◌, ◌++◌, ℤ, codes}
+use Rattle.std.specs.Prelude.{Bool, List, ◌∷◌, ◌++◌, ℤ, codes}
 use Rattle.std.specs.List.{flat_map}
 use Rattle.std.specs.Fmt.{signed_decimal}
 use Rattle.bl_certline.specs.declared.line.CertLine.{CertLine}

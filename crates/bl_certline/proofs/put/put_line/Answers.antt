@@ -1,4 +1,4 @@
-use Rattle.std.proofs.Common.{◌≡◌, rules, sym, ap, ◌∙◌, append_assoc}
+use Rattle.std.proofs.Common.{rules, sym, append_assoc}
 use Rattle.std.proofs.lemmas.Result.{IfOk-equal}
 use Rattle.bl_certline.proofs.Spelling.{line_text-spelling}
 use Rattle.bl_certline.proofs.put.put_line.Goals as goal

@@ -1,4 +1,4 @@
-use Rattle.std.proofs.Common.{Option, subst}
+use Rattle.std.proofs.Common.{subst}
 use Rattle.bl_certline.specs.Fields.{Finds}
 use Rattle.bl_certline.specs.Lines.{IsSpelled}
 use Rattle.bl_certline.proofs.LineReading.{finds_canonical}

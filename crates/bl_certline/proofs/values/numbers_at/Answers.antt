@@ -1,7 +1,7 @@
 use Rattle.std.proofs.Common.{◌≡◌, ℕ, ◌-◌, ◌+◌, suc, [], ◌∷◌, ◌++◌, sym, ap, ◌∙◌, arith, rules}
-use Rattle.std.proofs.lemmas.Grind.{common_steps}
 use Rattle.bl_certline.specs.LineValues.{numbers_at}
-use Rattle.bl_certline.proofs.Lists.{numbers_at-done, numbers_at-fails, numbers_at-more, with_numbers, with_numbers-none}
+use Rattle.bl_certline.proofs.Lists.{numbers_at-done, numbers_at-fails, numbers_at-more, with_numbers}
+use Rattle.bl_certline.proofs.Lists.{with_numbers-none}
 use Rattle.bl_certline.proofs.values.numbers_at.Goals as goal
 
 pub loop-place-init : goal.loop-place-init
@@ -24,7 +24,8 @@ loop-place-preserved c =
     let less : left ≡ suc (c.args.count - (c.loop-place._place + 1)) = omega arith in
     let front = c.loop-place.numbers.items in
     let items : c.push.new.self.items ≡ front ++ c.in-Some.number ∷ [] = search rules in
-    rw items (sym (numbers_at-more front left _ c.loop-place.words c.in-Some.rest c.in-Some.number less c.in-Some.ensures)
+    rw items
+    (sym (numbers_at-more front left _ c.loop-place.words c.in-Some.rest c.in-Some.number less c.in-Some.ensures)
     ∙ c.loop-place.invariant)
 
 pub returns : goal.returns
