@@ -1,1 +1,3 @@
 pub mod Elements
+pub mod FirstLines
+pub mod Walks

@@ -3,8 +3,12 @@
 
 mod places;
 mod region;
+mod cert;
 mod part;
+mod read;
 mod step;
 
+pub use cert::{CertError, RawCert};
 pub use part::Part;
+pub use read::read_cert;
 pub use region::Region;
