@@ -4,6 +4,7 @@
 mod places;
 mod region;
 mod cert;
+pub mod laws;
 mod part;
 mod read;
 mod step;

@@ -1,5 +1,6 @@
 //! The step over one line: whether it may stand where a part is expected, and what is expected then.
 ghost use Rattle.std.specs.Prelude.{◌≡◌, ◌<◌, ◌↔◌, ◌∷◌, [], None, Some, IfOk, IsTrue, MatchOption};
+ghost use Rattle.bl_terms.specs.Programs.{Program};
 ghost use Rattle.bl_certtext.specs.Places.{IsAbove, SplitsAt, lower_count};
 ghost use Rattle.bl_certtext.specs.Grammar.{cuts_from, entries_from, high_of, low_of, units_from};
 ghost use Rattle.bl_certtext.specs.Steps.{IsStep, parts_in};
@@ -48,10 +49,9 @@ fn units_from(left: usize, items: usize) -> Following
 
 // ---- the lines that stand alone
 
-fn version_step(model: &Bilevel, line: &CertLine) -> Option<Following>
-    ensures { IsStep model.now Part.Version line.now result }
+fn version_step(line: &CertLine) -> Option<Following>
+    ensures { (p : Program) → IsStep p Part.Version line.now result }
 {
-    let _ = model;
     let CertLine::Version { number } = line else {
         return None;
     };
@@ -62,20 +62,18 @@ fn version_step(model: &Bilevel, line: &CertLine) -> Option<Following>
     }
 }
 
-fn sense_step(model: &Bilevel, line: &CertLine) -> Option<Following>
-    ensures { IsStep model.now Part.Sense line.now result }
+fn sense_step(line: &CertLine) -> Option<Following>
+    ensures { (p : Program) → IsStep p Part.Sense line.now result }
 {
-    let _ = model;
     match line {
         CertLine::Sense { .. } => Some(Following::Nothing),
         _ => None,
     }
 }
 
-fn statement_step(model: &Bilevel, line: &CertLine) -> Option<Following>
-    ensures { IsStep model.now Part.Statement line.now result }
+fn statement_step(line: &CertLine) -> Option<Following>
+    ensures { (p : Program) → IsStep p Part.Statement line.now result }
 {
-    let _ = model;
     match line {
         CertLine::StatesOptimal { .. } => Some(Following::Two(Part::Point, Part::EntryCount)),
         CertLine::StatesInfeasible => Some(Following::One(Part::EntryCount)),
@@ -92,10 +90,9 @@ fn point_step(model: &Bilevel, line: &CertLine) -> Option<Following>
     }
 }
 
-fn end_step(model: &Bilevel, line: &CertLine) -> Option<Following>
-    ensures { IsStep model.now Part.End line.now result }
+fn end_step(line: &CertLine) -> Option<Following>
+    ensures { (p : Program) → IsStep p Part.End line.now result }
 {
-    let _ = model;
     match line {
         CertLine::End => Some(Following::Nothing),
         _ => None,
@@ -157,10 +154,9 @@ fn response_step(model: &Bilevel, line: &CertLine) -> Option<Following>
     }
 }
 
-fn unit_step(model: &Bilevel, left: usize, items: usize, line: &CertLine) -> Option<Following>
-    ensures { IsStep model.now (Part.Units left items) line.now result }
+fn unit_step(left: usize, items: usize, line: &CertLine) -> Option<Following>
+    ensures { (p : Program) → IsStep p (Part.Units left items) line.now result }
 {
-    let _ = model;
     match line {
         CertLine::Unit { pairs } if are_below(items, pairs.as_slice()) => {
             Some(units_from(left.saturating_sub(1), items))
@@ -169,20 +165,18 @@ fn unit_step(model: &Bilevel, left: usize, items: usize, line: &CertLine) -> Opt
     }
 }
 
-fn cut_count_step(model: &Bilevel, line: &CertLine) -> Option<Following>
-    ensures { IsStep model.now Part.CutCount line.now result }
+fn cut_count_step(line: &CertLine) -> Option<Following>
+    ensures { (p : Program) → IsStep p Part.CutCount line.now result }
 {
-    let _ = model;
     match line {
         CertLine::CutCount { count } => Some(Following::One(cuts_from(0, count.unsigned_abs()))),
         _ => None,
     }
 }
 
-fn cut_step(model: &Bilevel, place: u64, count: u64, line: &CertLine) -> Option<Following>
-    ensures { IsStep model.now (Part.Cuts place count) line.now result }
+fn cut_step(place: u64, count: u64, line: &CertLine) -> Option<Following>
+    ensures { (p : Program) → IsStep p (Part.Cuts place count) line.now result }
 {
-    let _ = model;
     match line {
         CertLine::CutHead if place < count => Some(Following::Two(
             Part::CutArea { place },
@@ -194,10 +188,9 @@ fn cut_step(model: &Bilevel, place: u64, count: u64, line: &CertLine) -> Option<
 
 // ---- entries
 
-fn entry_count_step(model: &Bilevel, line: &CertLine) -> Option<Following>
-    ensures { IsStep model.now Part.EntryCount line.now result }
+fn entry_count_step(line: &CertLine) -> Option<Following>
+    ensures { (p : Program) → IsStep p Part.EntryCount line.now result }
 {
-    let _ = model;
     match line {
         CertLine::Entries { count } => Some(entries_from(count.unsigned_abs(), None)),
         _ => None,
@@ -385,24 +378,24 @@ pub(crate) fn step(
     ensures { IfOk result (IsStep model.now part line.now) }
 {
     match part {
-        Part::Version => Ok(version_step(model, line)),
-        Part::Sense => Ok(sense_step(model, line)),
-        Part::Statement => Ok(statement_step(model, line)),
+        Part::Version => Ok(version_step(line)),
+        Part::Sense => Ok(sense_step(line)),
+        Part::Statement => Ok(statement_step(line)),
         Part::Point => Ok(point_step(model, line)),
-        Part::EntryCount => Ok(entry_count_step(model, line)),
+        Part::EntryCount => Ok(entry_count_step(line)),
         Part::Entries { left, last } => entry_step(alloc, model, left, last, line),
         Part::Answer => answer_step(alloc, model, line),
         Part::FollowerTree { area } => follower_tree_step(alloc, model, lower, area, line),
-        Part::CutCount => Ok(cut_count_step(model, line)),
-        Part::Cuts { place, count } => Ok(cut_step(model, place, count, line)),
+        Part::CutCount => Ok(cut_count_step(line)),
+        Part::Cuts { place, count } => Ok(cut_step(place, count, line)),
         Part::CutArea { place } => Ok(cut_area_step(model, place, line)),
         Part::Tight { place } => Ok(tight_step(model, place, line)),
         Part::Inverse { items } => Ok(inverse_step(model, items, line)),
-        Part::Units { left, items } => Ok(unit_step(model, left, items, line)),
+        Part::Units { left, items } => Ok(unit_step(left, items, line)),
         Part::At => Ok(at_step(model, line)),
         Part::Response => Ok(response_step(model, line)),
         Part::Head { cuts } => head_step(alloc, model, cuts, line),
         Part::Tree { area, cuts } => tree_step(alloc, model, area, cuts, line),
-        Part::End => Ok(end_step(model, line)),
+        Part::End => Ok(end_step(line)),
     }
 }
