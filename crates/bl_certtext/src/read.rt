@@ -13,10 +13,7 @@ use bl_model::{Bilevel, Listed};
 use std::alloc::{AllocError, Global};
 
 /// The canonical line at the front of the bytes, and what stands behind its line feed.
-fn first_line(
-    alloc: Global,
-    bytes: &[u8],
-) -> Result<Option<(CertLine, &[u8])>, AllocError>
+fn first_line(alloc: Global, bytes: &[u8]) -> Result<Option<(CertLine, &[u8])>, AllocError>
     ensures { IfOk result (λ first. MatchOption first (IsNoLine bytes.now) (λ x. IsFirstLine bytes.now x.0 x.1.now)) }
 {
     let Some(end) = next_line(bytes, 0) else {

@@ -358,10 +358,7 @@ fn tree_step(
             *value_row,
             cited.as_slice(),
             mult.as_slice(),
-        ) =>
-        {
-            Ok(Some(Following::Nothing))
-        }
+        ) => { Ok(Some(Following::Nothing)) }
         _ => Ok(None),
     }
 }

@@ -14,4 +14,4 @@ loop-place-preserved c =
     let last : i - 1 < length xs = omega arith in
     all_adjacent_more xs IsBefore i (omega arith) c.loop-place.invariant
     (λ d. at_any (λ y. IsBefore (get_or xs (i - 1) d) y) xs i none d c.loop-place-test.true
-      (at_any (λ x. IsBefore x (get_or xs i none)) xs (i - 1) none d last (c.if-not-is_before.ensures.0 refl)))
+    (at_any (λ x. IsBefore x (get_or xs i none)) xs (i - 1) none d last (c.if-not-is_before.ensures.0 refl)))

@@ -9,4 +9,4 @@ loop-item-preserved c =
     let i = c.loop-item.item-index in
     AllWithin-more (IsThere c.args.model.now c.args.earlier) c.args.items.now 0 i c.loop-item.invariant
     (λ d. at_any (IsThere c.args.model.now c.args.earlier) c.args.items.now i _ d c.loop-item-test.true
-      (c.if-not-is_there.ensures.0 refl))
+    (c.if-not-is_there.ensures.0 refl))
