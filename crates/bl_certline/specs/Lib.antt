@@ -1,3 +1,5 @@
+-- Fields, Lines and Laws are trusted: what the fields and the lines of a certificate are, and that each spelling is of
+-- one line. The others are internal.
 pub mod Fields
 pub mod FieldValues
 pub mod Forms

@@ -1,17 +1,18 @@
 -- The canonical line at the front of a text.
-use Rattle.std.proofs.Common.{◌≡◌, ◌≢◌, ℕ, zero, suc, ◌+◌, ◌<◌, ◌≤◌, eqb, false, List, [], ◌∷◌, ◌++◌, length, get_or, take}
+use Rattle.std.proofs.Common.{◌≡◌, ◌≢◌, ℕ, zero, suc, ◌<◌, [], ◌∷◌, ◌++◌, length, get_or}
+use Rattle.std.proofs.Common.{take}
 use Rattle.std.proofs.Common.{refl, sym, ap, subst, ◌∙◌, arith, inl, inr, append_assoc, None}
 use Rattle.std.proofs.Math.Seq.{take-append_seam}
 use Rattle.std.proofs.lemmas.Bool.{cases_lt, eqb-false}
 use Rattle.std.proofs.lemmas.List.{length-append}
-use Rattle.bl_text.specs.Lines.{IsLine, ended}
+use Rattle.bl_text.specs.Lines.{IsLine}
 use Rattle.bl_certline.specs.declared.line.CertLine.{CertLine}
 use Rattle.bl_certline.specs.Fields.{Bytes, Finds, IsNextLineFeed}
 use Rattle.bl_certline.specs.Lines.{IsCanonical, spelling}
 use Rattle.bl_certline.proofs.LineReading.{one_line}
 use Rattle.bl_certline.proofs.LineWords.{line-spelling}
 use Rattle.bl_certtext.specs.Steps.{IsFirstLine, IsNoLine}
-use Rattle.bl_certtext.specs.Texts.{IsCanonicalLine, line_text}
+use Rattle.bl_certtext.specs.Texts.{line_text}
 
 feed_behind : (line rest : Bytes) → get_or (line ++ 10 ∷ rest) (length line) 0 ≡ 10
 feed_behind [] rest = refl

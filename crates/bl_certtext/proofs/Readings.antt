@@ -1,5 +1,6 @@
 -- A text has one reading at most.
-use Rattle.std.proofs.Common.{◌≡◌, ◌⊎◌, ℕ, ◌+◌, ◌<◌, List, [], ◌∷◌, ◌++◌, length, refl, sym, ap, subst, ◌∙◌, arith, inl, inr}
+use Rattle.std.proofs.Common.{◌≡◌, ◌⊎◌, ℕ, ◌+◌, List, [], ◌∷◌, ◌++◌, length, refl, sym, ap, subst, ◌∙◌, arith}
+use Rattle.std.proofs.Common.{inl, inr}
 use Rattle.std.proofs.Common.{append_assoc}
 use Rattle.std.specs.List.{AllByRecursion}
 use Rattle.std.proofs.lemmas.List.{append-nil}
@@ -8,7 +9,7 @@ use Rattle.bl_certline.specs.declared.line.CertLine.{CertLine}
 use Rattle.bl_certline.specs.Fields.{Bytes}
 use Rattle.bl_certtext.specs.declared.part.Part.{Part}
 use Rattle.bl_certtext.specs.Grammar.{Follows, parts_behind}
-use Rattle.bl_certtext.specs.Laws.{OneReading, HaveOneReading}
+use Rattle.bl_certtext.specs.Laws.{HaveOneReading}
 use Rattle.bl_certtext.specs.Texts.{FailsFirst, IsCanonicalLine, IsCertificate, IsRefused, Leads, line_text, start}
 use Rattle.bl_certtext.specs.Texts.{text_of}
 use Rattle.bl_certtext.proofs.FirstLines.{one_first}

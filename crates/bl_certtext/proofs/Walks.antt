@@ -1,8 +1,9 @@
 -- The lines that are read, one after another.
-use Rattle.std.proofs.Common.{◌≡◌, ℕ, ◌+◌, ◌<◌, List, [], ◌∷◌, ◌++◌, length, refl, sym, ap, subst, ◌∙◌, arith, append_assoc}
+use Rattle.std.proofs.Common.{◌≡◌, ℕ, ◌+◌, ◌<◌, List, [], ◌∷◌, ◌++◌, length, sym, ap, subst, ◌∙◌}
+use Rattle.std.proofs.Common.{append_assoc}
 use Rattle.std.proofs.Common.{reverse, Option, None, Some, Bor}
 use Rattle.std.specs.Prelude.{MatchOption}
-use Rattle.std.specs.List.{AllByRecursion, flat_map}
+use Rattle.std.specs.List.{AllByRecursion}
 use Rattle.std.proofs.lemmas.List.{append-nil, reverse-append}
 use Rattle.bl_terms.specs.Programs.{Program}
 use Rattle.bl_certline.specs.declared.line.CertLine.{CertLine}
@@ -11,7 +12,7 @@ use Rattle.bl_certtext.specs.declared.part.Part.{Part}
 use Rattle.bl_certtext.specs.declared.part.Following.{Following}
 use Rattle.bl_certtext.specs.Grammar.{Begins, Follows}
 use Rattle.bl_certtext.specs.Steps.{Advances, IsFirstLine, IsNoLine, IsReached, IsRefusedLine, IsStep}
-use Rattle.bl_certtext.specs.Texts.{FailsFirst, IsCanonicalLine, IsCertificate, IsRefused, Leads, line_text, start}
+use Rattle.bl_certtext.specs.Texts.{FailsFirst, IsCanonicalLine, IsCertificate, Leads, line_text, start}
 use Rattle.bl_certtext.specs.Texts.{text_of}
 use Rattle.bl_certtext.proofs.FirstLines.{one_first}
 

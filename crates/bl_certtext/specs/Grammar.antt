@@ -1,5 +1,5 @@
 -- Trusted. The grammar of a certificate: the parts that are expected, and the line with which a part begins.
-use Rattle.std.specs.Prelude.{◌≡◌, ◌⊎◌, ℕ, zero, suc, ◌+◌, ◌-◌, ◌<◌, Bool, List, [], ◌∷◌, ◌++◌, length, All, ℤ, pos}
+use Rattle.std.specs.Prelude.{◌≡◌, ◌⊎◌, ℕ, zero, suc, ◌+◌, ◌-◌, ◌<◌, List, [], ◌∷◌, length, All, ℤ, pos}
 use Rattle.std.specs.Prelude.{◌<ℤ◌, ⊤, Option, Some, None, unsigned_abs, nat_lt, if◌then◌else◌}
 use Rattle.std.specs.Ordering.{int_eq}
 use Rattle.bl_terms.specs.Points.{Area}

@@ -1,11 +1,12 @@
 -- Trusted. What the indices, points, boxes and lists of a certificate's lines have to be for a model.
-use Rattle.std.specs.Prelude.{◌≡◌, ◌⊎◌, ℕ, ◌+◌, ◌<◌, ◌≤◌, ◌≢◌, Bool, true, false, List, [], ◌∷◌, length, map, All, Contains}
+use Rattle.std.specs.Prelude.{◌≡◌, ◌⊎◌, ℕ, ◌+◌, ◌<◌, ◌≤◌, ◌≢◌, Bool, false, List, length, All}
+use Rattle.std.specs.Prelude.{Contains}
 use Rattle.std.specs.Prelude.{ℤ, pos, ◌<ℤ◌, ◌≤ℤ◌, ⊤, Option, Some, None, count_by, slice_index_or}
 use Rattle.std.specs.List.{AllAdjacentBelow}
 use Rattle.bl_whole.specs.Sums.{component}
 use Rattle.bl_limits.specs.declared.TheConstants.{MAX_CUTS}
 use Rattle.bl_terms.specs.Points.{Area}
-use Rattle.bl_terms.specs.Programs.{Program, Row, columns}
+use Rattle.bl_terms.specs.Programs.{Program, columns}
 use Rattle.bl_terms.specs.Trees.{CanSplit, high_half, low_half}
 use Rattle.bl_certline.specs.declared.line.TightItem.{TightItem}
 use Rattle.bl_certline.specs.declared.line.TightItem.TheVariants as items

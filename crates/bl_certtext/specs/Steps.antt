@@ -43,7 +43,8 @@ pub record Advances (p : Program) (part : Part) (bytes : Bytes) (line : CertLine
   pub expected : reverse new ≡ next ++ reverse old
 
 -- The lines read so far, the stack of the parts that are expected, the next on top, and what is left of the text.
-pub record IsReached (p : Program) (bytes : Bytes) (ls : List CertLine) (stack : List Part) (rest : Bytes) : Type 0 where
+pub record IsReached (p : Program) (bytes : Bytes) (ls : List CertLine) (stack : List Part) (rest : Bytes)
+    : Type 0 where
   pub canonical : AllByRecursion IsCanonicalLine ls
   pub grammar : Leads p start ls (reverse stack)
   pub spelled : bytes ≡ text_of ls ++ rest

@@ -1,5 +1,5 @@
 -- Trusted. The text of a certificate, and the line at which another text first fails to be one.
-use Rattle.std.specs.Prelude.{◌≡◌, ◌⊎◌, ℕ, ◌+◌, ◌<◌, List, [], ◌∷◌, ◌++◌, length, Result, Ok, Err}
+use Rattle.std.specs.Prelude.{◌≡◌, ℕ, ◌+◌, ◌<◌, List, [], ◌∷◌, ◌++◌, length, Result, Ok, Err}
 use Rattle.std.specs.List.{AllByRecursion, flat_map}
 use Rattle.bl_text.specs.Lines.{ended}
 use Rattle.bl_terms.specs.Programs.{Program}

@@ -1,4 +1,4 @@
-use Rattle.std.proofs.Common.{ℕ, ℤ, ◌<◌, take}
+use Rattle.std.proofs.Common.{ℤ, take}
 use Rattle.std.specs.Prelude.{All}
 use Rattle.bl_certtext.specs.Places.{IsPlace}
 use Rattle.bl_certtext.proofs.places.are_below.Given as goal

@@ -12,6 +12,7 @@ loop-number-preserved c =
     let i = c.loop-number.number-index in
     let xs = c.args.numbers.now in
     let fits : FitsSigned w64 (slice_index_or xs i (pos 0)) = search rules in
-    let here : IsPlace c.args.count (slice_index_or xs i (pos 0)) = rw to_z-of_z at (c.if-not-is_place.ensures.0 refl) in
+    let here : IsPlace c.args.count (slice_index_or xs i (pos 0)) =
+    rw to_z-of_z at (c.if-not-is_place.ensures.0 refl) in
     AllWithin-more (IsPlace c.args.count) xs 0 i c.loop-number.invariant
     (λ d. at_any (IsPlace c.args.count) xs i (pos 0) d c.loop-number-test.true here)

@@ -1,5 +1,4 @@
-use Rattle.std.proofs.Common.{rules, ◌≡◌, ℕ, ◌+◌, ◌<◌, ◌≤ℤ◌, ◌∙◌, ap, subst, length, arith, false, pos, inl, inr}
-use Rattle.std.proofs.lemmas.Bool.{cases_lt}
+use Rattle.std.proofs.Common.{rules, ◌≡◌, ◌≤ℤ◌, ◌∙◌, ap, length, arith, false, pos}
 use Rattle.std.specs.Prelude.{slice_index, slice_index_or, FitsSigned, int_lt}
 use Rattle.std.specs.Int.{w64}
 use Rattle.std.proofs.lemmas.Int.{to_z-of_z, ints}
@@ -13,7 +12,8 @@ bounds-lo-column c =
 
 pub bounds-hi-column : goal.bounds-hi-column
 bounds-hi-column c =
-    rw (ap length c.hi-hi.ensures.hi ∙ c.lo-lo.ensures.model.sound.box.sides) (c.requires c.loop-j.j 0 c.loop-j-test.true)
+    rw (ap length c.hi-hi.ensures.hi ∙ c.lo-lo.ensures.model.sound.box.sides)
+    (c.requires c.loop-j.j 0 c.loop-j-test.true)
 
 pub loop-j-preserved : goal.loop-j-preserved
 loop-j-preserved c =
