@@ -1,3 +1,4 @@
+pub mod BegunForms
 pub mod Elements
 pub mod FirstLines
 pub mod Readings

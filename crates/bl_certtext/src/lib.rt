@@ -2,6 +2,7 @@
 #![tactic(auto)]
 
 mod cert;
+mod form;
 pub mod laws;
 mod part;
 mod places;
@@ -10,6 +11,7 @@ mod region;
 mod step;
 
 pub use cert::{CertError, RawCert};
+pub use form::has_form;
 pub use part::Part;
 pub use read::read_cert;
 pub use region::Region;
