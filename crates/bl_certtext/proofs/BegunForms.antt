@@ -1,9 +1,5 @@
 -- A line with which a part begins has its form.
-use Rattle.std.proofs.Common.{◌≡◌}
-use Rattle.bl_terms.specs.Programs.{Program}
-use Rattle.bl_certline.specs.declared.line.CertLine.{CertLine}
 use Rattle.bl_certline.specs.declared.line.CertLine.TheVariants as lines
-use Rattle.bl_certtext.specs.declared.part.Part.{Part}
 use Rattle.bl_certtext.specs.declared.part.Part.TheVariants as parts
 use Rattle.bl_certtext.specs.Forms.{BeginsWithForm}
 

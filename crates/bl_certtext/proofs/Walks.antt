@@ -10,8 +10,8 @@ use Rattle.bl_certline.specs.declared.line.CertLine.{CertLine}
 use Rattle.bl_certline.specs.Fields.{Bytes}
 use Rattle.bl_certtext.specs.declared.part.Part.{Part}
 use Rattle.bl_certtext.specs.declared.part.Following.{Following}
-use Rattle.bl_certtext.specs.Grammar.{Begins, Follows}
-use Rattle.bl_certtext.specs.Steps.{Advances, IsFirstLine, IsNoLine, IsReached, IsRefusedLine, IsStep}
+use Rattle.bl_certtext.specs.Grammar.{Begins, Follows, IsStep}
+use Rattle.bl_certtext.specs.Steps.{Advances, IsFirstLine, IsNoLine, IsReached, IsRefusedLine}
 use Rattle.bl_certtext.specs.Texts.{FailsFirst, IsCanonicalLine, IsCertificate, Leads, line_text, start}
 use Rattle.bl_certtext.specs.Texts.{text_of}
 use Rattle.bl_certtext.proofs.FirstLines.{one_first}

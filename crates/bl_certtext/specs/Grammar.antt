@@ -1,6 +1,6 @@
 -- Trusted. The grammar of a certificate: the parts that are expected, and the line with which a part begins.
 use Rattle.std.specs.Prelude.{◌≡◌, ◌⊎◌, ℕ, zero, suc, ◌+◌, ◌-◌, ◌<◌, List, [], ◌∷◌, length, All, ℤ, pos}
-use Rattle.std.specs.Prelude.{◌<ℤ◌, ⊤, Option, Some, None, unsigned_abs, nat_lt, if◌then◌else◌}
+use Rattle.std.specs.Prelude.{◌<ℤ◌, ⊤, Option, Some, None, unsigned_abs, nat_lt, MatchOption, if◌then◌else◌}
 use Rattle.std.specs.Ordering.{int_eq}
 use Rattle.bl_terms.specs.Points.{Area}
 use Rattle.bl_terms.specs.Programs.{Program, InBox, columns, root}
@@ -8,6 +8,8 @@ use Rattle.bl_terms.specs.Responses.{InRanges, IsLink}
 use Rattle.bl_terms.specs.Trees.{high_half, low_half}
 use Rattle.bl_certline.specs.declared.line.CertLine.{CertLine}
 use Rattle.bl_certline.specs.declared.line.CertLine.TheVariants as lines
+use Rattle.bl_certtext.specs.declared.part.Following.{Following}
+use Rattle.bl_certtext.specs.declared.part.Following.TheVariants.{Nothing, One, Two}
 use Rattle.bl_certtext.specs.declared.part.Part.{Part}
 use Rattle.bl_certtext.specs.declared.part.Part.TheVariants as parts
 use Rattle.bl_certtext.specs.Places.{AreBelow, AreInOrder, IsAbove, IsFollowers, IsLeaf, IsPart, IsThere, SplitsAt}
@@ -92,3 +94,15 @@ parts_behind p part line = []
 pub record Follows (p : Program) (part : Part) (line : CertLine) (next : List Part) : Type 0 where
   pub begins : Begins p part line
   pub next_parts : next ≡ parts_behind p part line
+
+-- ---- the step over one line
+
+-- the parts in their order
+abbrev pub parts_in : Following → List Part
+parts_in Nothing = []
+parts_in (One part) = part ∷ []
+parts_in (Two part next) = part ∷ next ∷ []
+
+-- what follows where the line may stand there, and nothing exactly where it may not
+abbrev pub IsStep : Program → Part → CertLine → Option Following → Type 0
+IsStep p part line step = MatchOption step (¬ Begins p part line) (λ f. Follows p part line (parts_in f))

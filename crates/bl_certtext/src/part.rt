@@ -68,8 +68,9 @@ pub enum Part {
     End,
 }
 
-/// The parts that stand in place of one whose line was read.
-pub(crate) enum Following {
+/// The parts that are expected in place of one whose line was read.
+#[derive(Drop)]
+pub enum Following {
     Nothing,
     One(Part),
     Two(Part, Part),

@@ -129,7 +129,7 @@ pub(crate) fn rise(numbers: &[i64]) -> bool
 }
 
 /// How many rows the follower has.
-pub(crate) fn lower_count(model: &Bilevel) -> usize
+pub fn lower_count(model: &Bilevel) -> usize
     ensures { result ≡ lower_count model.now }
 {
     model.rows().iter().filter(|row| row.lower).count()

@@ -1,13 +1,14 @@
 //! The reader of a whole text.
 ghost use Rattle.std.specs.Prelude.{◌≡◌, ◌++◌, ◌<◌, ◌+◌, IfOk, MatchOption, OnOk, length, reverse};
 ghost use Rattle.bl_certtext.specs.Places.{lower_count};
-ghost use Rattle.bl_certtext.specs.Steps.{Advances, IsFirstLine, IsNoLine, IsRefusedLine, parts_in};
+ghost use Rattle.bl_certtext.specs.Grammar.{parts_in};
+ghost use Rattle.bl_certtext.specs.Steps.{Advances, IsFirstLine, IsNoLine, IsRefusedLine};
 ghost use Rattle.bl_certtext.specs.Texts.{IsRead};
 
 use crate::cert::{CertError, RawCert};
 use crate::part::{Following, Part};
 use crate::places::lower_count;
-use crate::step::step;
+use crate::stepping::step;
 use bl_certline::{CertLine, next_line, read_line};
 use bl_model::{Bilevel, Listed};
 use std::alloc::{AllocError, Global};

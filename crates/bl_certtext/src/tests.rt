@@ -1,6 +1,5 @@
 //! Texts that have the form of a certificate, and the first lines at which others haven't.
 use super::*;
-use bl_certline::put_line;
 use bl_examples::{leader_row, least_under_leader};
 use bl_model::Bilevel;
 use std::alloc::{AllocError, Global};

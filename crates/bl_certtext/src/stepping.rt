@@ -2,8 +2,7 @@
 ghost use Rattle.std.specs.Prelude.{◌≡◌, ◌<◌, ◌↔◌, ◌∷◌, [], None, Some, IfOk, IsTrue, MatchOption};
 ghost use Rattle.bl_terms.specs.Programs.{Program};
 ghost use Rattle.bl_certtext.specs.Places.{IsAbove, SplitsAt, lower_count};
-ghost use Rattle.bl_certtext.specs.Grammar.{cuts_from, entries_from, high_of, low_of, units_from};
-ghost use Rattle.bl_certtext.specs.Steps.{IsStep, parts_in};
+ghost use Rattle.bl_certtext.specs.Grammar.{IsStep, cuts_from, entries_from, high_of, low_of, parts_in, units_from};
 
 use crate::part::{Following, Part};
 use crate::places::{
@@ -363,8 +362,9 @@ fn tree_step(
     }
 }
 
-/// What follows where the line may stand where the part is expected; `None` where it may not.
-pub(crate) fn step(
+/// What is expected behind the line in place of the part; `None` where the line may not stand there. `lower` is the
+/// count of the follower's rows, by `lower_count`.
+pub fn step(
     alloc: Global,
     model: &Bilevel,
     lower: usize,
