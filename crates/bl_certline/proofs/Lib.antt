@@ -1,3 +1,4 @@
+pub mod Kept
 pub mod LineReading
 pub mod LineWords
 pub mod Lists

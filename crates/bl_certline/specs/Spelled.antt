@@ -1,5 +1,5 @@
 -- Internal. The spelling of a line as it is put at the end of a text, piece by piece.
-use Rattle.std.specs.Prelude.{Bool, List, ◌∷◌, ◌++◌, ℤ, codes}
+use Rattle.std.specs.Prelude.{◌≡◌, Bool, List, ◌∷◌, ◌++◌, ℤ, codes}
 use Rattle.std.specs.List.{flat_map}
 use Rattle.std.specs.Fmt.{signed_decimal}
 use Rattle.bl_certline.specs.declared.line.CertLine.{CertLine}
@@ -7,6 +7,11 @@ use Rattle.bl_certline.specs.declared.line.CertLine.TheVariants as lines
 use Rattle.bl_certline.specs.declared.line.TightItem.{TightItem}
 use Rattle.bl_certline.specs.Fields.{Bytes, pair_word}
 use Rattle.bl_certline.specs.Lines.{item_word, sense_word, value_mark}
+
+-- the bytes that were there still come first
+pub record Keeps (old new : Bytes) : Type 0 where
+  pub more : Bytes
+  pub kept : new ≡ old ++ more
 
 -- a word behind a space
 abbrev pub behind : Bytes → Bytes
