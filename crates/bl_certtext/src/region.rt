@@ -27,6 +27,7 @@ impl Model for Region {
 }
 
 impl Region {
+    ghost use Rattle.std.specs.Arc.{arc_value};
     ghost use Rattle.std.specs.Prelude.{◌≡◌, IfOk, MatchOption};
     ghost use Rattle.bl_terms.specs.Programs.{root};
     ghost use Rattle.bl_certtext.specs.Places.{AreHalves, SplitsAt};
@@ -38,6 +39,12 @@ impl Region {
         Ok(Region {
             area: Arc::new(alloc, Box2::root(alloc, model)?)?,
         })
+    }
+
+    pub fn area(&self) -> &Arc<Box2, Global>
+        ensures { arc_value result.now ≡ self.now }
+    {
+        &self.area
     }
 
     /// The two halves of the box; `None` where the place doesn't split it at the column that the number names.
