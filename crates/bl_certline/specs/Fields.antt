@@ -4,6 +4,7 @@ use Rattle.std.specs.Prelude.{Some, None, FitsSigned}
 use Rattle.std.specs.Int.{w64}
 use Rattle.std.specs.Fmt.{signed_decimal}
 
+-- bytes in no particular encoding
 abbrev pub Bytes : Type 0
 Bytes = List ℕ
 
@@ -31,6 +32,7 @@ pub record IsPair (p : ℤ × ℤ) : Type 0 where
   pub number : IsWhole p.1
   pub nonzero : p.1 ≢ pos 0
 
+-- the field is the spelling of the pair
 pub record IsPairField (field : Bytes) (p : ℤ × ℤ) : Type 0 where
   pub pair : IsPair p
   pub spelled : field ≡ pair_word p

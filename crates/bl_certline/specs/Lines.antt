@@ -12,6 +12,7 @@ use Rattle.bl_certline.specs.Fields.{Bytes, IsPair, IsWhole, pair_word}
 
 -- ---- words
 
+-- what the leader wants of his value
 abbrev pub sense_word : Bool → Bytes
 sense_word maximise = if maximise then codes "max" else codes "min"
 
@@ -26,9 +27,11 @@ item_word (items.Upper place) = codes "u" ++ signed_decimal place
 item_word (items.Lower place) = codes "l" ++ signed_decimal place
 item_word (items.Cut place) = codes "c" ++ signed_decimal place
 
+-- a word for each number, in plain decimal
 abbrev pub number_words : List ℤ → List Bytes
 number_words zs = map signed_decimal zs
 
+-- a word for each pair
 abbrev pub pair_words : List (ℤ × ℤ) → List Bytes
 pair_words ps = map pair_word ps
 
@@ -73,9 +76,11 @@ spelling line = join_with_byte 32 (words_of line)
 abbrev pub IsProofNumber : ℤ → Type 0
 IsProofNumber z = unsigned_abs z ≤ unsigned_abs MAX_PROOF_NUMBER
 
+-- a number of 64 bits that isn't negative
 abbrev pub IsCount : ℤ → Type 0
 IsCount z = IsWhole z × (pos 0 ≤ℤ z)
 
+-- numbers of 64 bits
 abbrev pub AreWhole : List ℤ → Type 0
 AreWhole zs = AllByRecursion IsWhole zs
 
@@ -83,9 +88,11 @@ AreWhole zs = AllByRecursion IsWhole zs
 abbrev pub IsMultiplier : ℤ × ℤ → Type 0
 IsMultiplier p = IsPair p × IsProofNumber p.1
 
+-- pairs of that kind
 abbrev pub AreMultipliers : List (ℤ × ℤ) → Type 0
 AreMultipliers ps = AllByRecursion IsMultiplier ps
 
+-- the place that an item names
 abbrev pub place_of : TightItem → ℤ
 place_of (items.Row place) = place
 place_of (items.Upper place) = place

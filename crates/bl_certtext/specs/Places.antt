@@ -63,6 +63,7 @@ IsThere p earlier (items.Upper place) = IsPlace (columns p) place
 IsThere p earlier (items.Lower place) = IsPlace (columns p) place
 IsThere p earlier (items.Cut place) = IsPlace earlier place
 
+-- an item's kind and its place there
 abbrev pub kind_of : TightItem → ℕ
 kind_of (items.Row place) = 0
 kind_of (items.Upper place) = 1

@@ -21,6 +21,7 @@ IsCanonicalLine line = IsWellFormed line × PairsRise line
 abbrev pub line_text : CertLine → Bytes
 line_text line = ended (spelling line)
 
+-- the text of lines, one after another
 abbrev pub text_of : List CertLine → Bytes
 text_of ls = flat_map line_text ls
 
