@@ -3,7 +3,7 @@
 //! Its variables are the columns of the problem and the activities of its rows, `a·z`, scaled by a power of 2. Each has
 //! a range; that of an activity has no lower end. A basic variable is the sum of its row's entries times the nonbasic
 //! variables, each of which stands at an end of its range. So a changed box or right side changes ranges alone.
-ghost use Rattle.std.specs.Prelude.{◌≡◌, ◌<◌, ◌≤◌};
+ghost use Rattle.std.specs.Prelude.{◌≤◌};
 
 use crate::numbers::{add_multiple, at, copy, put, row_of};
 use std::alloc::Global;

@@ -14,4 +14,4 @@ mod source;
 mod tests;
 
 pub use fine::FINE_UNIT;
-pub use simplex::{End, FloatSimplex};
+pub use simplex::{End, FLOAT_PIVOTS_AT_LEAST, FLOAT_PIVOTS_PER_LINE, FloatSimplex};

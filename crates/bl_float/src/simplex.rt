@@ -11,11 +11,11 @@ use std::alloc::{AllocError, Global};
 use std::marker::Model;
 use std::num::nearest_i64_to_f64;
 
-/// The pivots that one call may take: this many, and [`PIVOTS_PER_LINE`] more for each row and column.
-pub const PIVOTS_AT_LEAST: usize = 200;
+/// The pivots that one call may take: this many, and [`FLOAT_PIVOTS_PER_LINE`] more for each row and column.
+pub const FLOAT_PIVOTS_AT_LEAST: usize = 200;
 
-/// See [`PIVOTS_AT_LEAST`].
-pub const PIVOTS_PER_LINE: usize = 5;
+/// See [`FLOAT_PIVOTS_AT_LEAST`].
+pub const FLOAT_PIVOTS_PER_LINE: usize = 5;
 
 /// After how many pivots the dictionary is computed anew from the problem.
 const PIVOTS_KEPT: u32 = 100;
@@ -150,12 +150,14 @@ impl Engine {
 
     /// Computes the dictionary anew from the problem: of the same basis, or the opening one where that isn't usable.
     fn refresh(&mut self) -> Result<(), AllocError> {
+        self.is_open = false;
         self.source.restore(&mut self.dictionary)?;
         self.source.stand(&mut self.dictionary);
         if !is_dual_feasible(&self.dictionary) {
             self.source.open(&mut self.dictionary)?;
             self.source.stand(&mut self.dictionary);
         }
+        self.is_open = true;
         Ok(())
     }
 
@@ -272,8 +274,6 @@ impl Engine {
 }
 
 impl FloatSimplex {
-    ghost use Rattle.bl_float.specs.Shapes.{Shape};
-
     /// A simplex that has seen no problem. Takes no memory.
     pub fn new(alloc: Global) -> FloatSimplex
         ensures { result ≡ record { rows = 0; columns = 0 } }
@@ -291,7 +291,15 @@ impl FloatSimplex {
         }
     }
 
-    /// Minimises the cost of a problem, up to the cutoff less 1, above which it stops.
+    /// Has the next call begin with the opening dictionary.
+    pub fn forget(&mut self)
+        ensures { self.new ≡ self.old }
+    {
+        self.engine.is_open = false;
+    }
+
+    /// Minimises the cost of a problem, up to the cutoff less 1, above which it stops. It takes at most
+    /// [`FLOAT_PIVOTS_AT_LEAST`] pivots, and [`FLOAT_PIVOTS_PER_LINE`] more for each row and column.
     pub fn solve(&mut self, problem: &Problem<'_>, cutoff: Option<i64>) -> Result<End, AllocError>
         ensures { OnOk result
             (self.new ≡ record { rows = length problem.now.rows; columns = length problem.now.area.lo }) }
@@ -374,5 +382,5 @@ fn limit_of(cutoff: Option<i64>) -> f64 {
 /// The pivots that a call may take.
 fn most_pivots(rows: usize, columns: usize) -> usize {
     let lines = rows.saturating_add(columns);
-    PIVOTS_AT_LEAST.saturating_add(PIVOTS_PER_LINE.saturating_mul(lines))
+    FLOAT_PIVOTS_AT_LEAST.saturating_add(FLOAT_PIVOTS_PER_LINE.saturating_mul(lines))
 }

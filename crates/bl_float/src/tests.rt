@@ -1,5 +1,4 @@
 //! Worked and hostile problems, solved by hand.
-ghost use Rattle.std.specs.Prelude.{◌≡◌, length, IfOk, OnOk};
 ghost use Rattle.bl_terms.specs.Points.{IsArea};
 
 use super::*;

@@ -144,8 +144,27 @@ fn grid_licence(
     Ok(None)
 }
 
-/// What the search in doubles finds and an exact test shows.
+/// What the search in doubles finds and an exact test shows. The search stops above the limit, where there is one.
 fn led(
+    alloc: Global,
+    problem: &Problem<'_>,
+    cutoff: Option<i64>,
+    limit: Option<i64>,
+    scratch: &mut Scratch,
+) -> Result<Option<Relaxed>, AllocError>
+    requires { Fits problem.now }
+    ensures { IfOk result (λ o. IfSome o (IsRelaxed problem.now cutoff)) }
+{
+    match scratch.simplex.solve(problem, limit)? {
+        End::Infeasible => empty_proof(alloc, problem, cutoff, scratch.simplex.multipliers()),
+        End::AboveCutoff => cutoff_proof(alloc, problem, cutoff, scratch.simplex.multipliers()),
+        End::Optimal => at_optimum(alloc, problem, cutoff, scratch),
+        End::Tired | End::Broken => Ok(None),
+    }
+}
+
+/// What the search in doubles finds from the last dictionary, or else from the opening one and up to the optimum.
+fn led_twice(
     alloc: Global,
     problem: &Problem<'_>,
     cutoff: Option<i64>,
@@ -154,12 +173,12 @@ fn led(
     requires { Fits problem.now }
     ensures { IfOk result (λ o. IfSome o (IsRelaxed problem.now cutoff)) }
 {
-    match scratch.simplex.solve(problem, cutoff)? {
-        End::Infeasible => empty_proof(alloc, problem, cutoff, scratch.simplex.multipliers()),
-        End::AboveCutoff => cutoff_proof(alloc, problem, cutoff, scratch.simplex.multipliers()),
-        End::Optimal => at_optimum(alloc, problem, cutoff, scratch),
-        End::Tired | End::Broken => Ok(None),
+    let answer = led(alloc, problem, cutoff, cutoff, scratch)?;
+    if answer.is_some() {
+        return Ok(answer);
     }
+    scratch.simplex.forget();
+    led(alloc, problem, cutoff, None, scratch)
 }
 
 /// Relaxes the problem as [`relax`] does, led by floating point: a proof that closes the box, a whole point of it below
@@ -176,7 +195,7 @@ pub fn relax_led(
     if is_small(problem) {
         return relax(alloc, problem, cutoff);
     }
-    match led(alloc, problem, cutoff, scratch)? {
+    match led_twice(alloc, problem, cutoff, scratch)? {
         Some(answer) => Ok(answer),
         None => relax(alloc, problem, cutoff),
     }

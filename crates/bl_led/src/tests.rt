@@ -1,5 +1,4 @@
 //! Worked relaxations that are large enough to be led, found by hand.
-ghost use Rattle.std.specs.Prelude.{◌≡◌, length, IfOk};
 ghost use Rattle.bl_terms.specs.Points.{IsArea};
 
 use super::*;

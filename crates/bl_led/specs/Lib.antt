@@ -1,1 +1,0 @@
--- No specification of its own: the contract is that of the exact relaxation.
