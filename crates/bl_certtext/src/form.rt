@@ -73,7 +73,8 @@ fn is_area(model: &Bilevel, line: &CertLine) -> bool
 }
 
 fn is_link(model: &Bilevel, line: &CertLine) -> bool
-    ensures { (left : ℕ) (last : Option (List ℤ)) → IsTrue result ↔ HasForm model.now (Part.Entries left last) line.now }
+    ensures { (left : ℕ) (last : Option (List ℤ))
+        → IsTrue result ↔ HasForm model.now (Part.Entries left last) line.now }
 {
     match line {
         CertLine::EntryHead { link } => link.as_slice().len() == model.links().len(),

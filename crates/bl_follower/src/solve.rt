@@ -64,8 +64,8 @@ fn answer_of(tree: GrowingTree, best: Option<Response>) -> Solved
 }
 
 /// Finds what the follower answers to the link, in a tree of at most `budget` nodes. Where as many nodes as twice the
-/// points of his box but one may be taken, the budget is never spent. The scratch is room for relaxations and counts for
-/// nothing.
+/// points of his box but one may be taken, the budget is never spent. The scratch is room for relaxations and counts
+/// for nothing.
 pub fn solve_follower_with(
     alloc: Global,
     model: Arc<Bilevel, Global>,

@@ -2,8 +2,8 @@
 use bl_led::Scratch;
 use std::alloc::Global;
 
-/// What is kept from relaxation to relaxation: those of boxes, those of boxes with cuts, and those of the follower, each
-/// of which go on from the last one of their kind. No answer depends on it but by which one is found.
+/// What is kept from relaxation to relaxation: for those of boxes, of boxes with cuts, and of the follower, each of
+/// which goes on from the last one of its kind. No answer depends on it but by which one is found.
 #[derive(Debug, Drop)]
 pub struct Scratches {
     pub(crate) plain: Scratch,
