@@ -73,8 +73,8 @@ pub fn equal_responses(alloc: Global) -> Result<Bilevel, AllocError> {
     program(alloc, rows, columns, aux)
 }
 
-/// X and Y up to 1, the leader's row Y >= 1 and his cost X, and the follower's cost Y without a row. No point is bilevel
-/// feasible.
+/// X and Y up to 1, the leader's row Y >= 1 and his cost X, and the follower's cost Y without a row. No point is
+/// bilevel feasible.
 pub fn leader_row(alloc: Global) -> Result<Bilevel, AllocError> {
     let rows = vec![in alloc; row(alloc, Some(1), None)?]?;
     let columns = vec![in alloc;
@@ -85,8 +85,8 @@ pub fn leader_row(alloc: Global) -> Result<Bilevel, AllocError> {
     program(alloc, rows, columns, aux)
 }
 
-/// Two leader's columns X and X' up to 3 at -2X - 3X', in the row X + 2X' <= 4, and no follower. The answer is (2, 1) at
-/// -7.
+/// Two leader's columns X and X' up to 3 at -2X - 3X', in the row X + 2X' <= 4, and no follower. The answer is (2, 1)
+/// at -7.
 pub fn no_follower(alloc: Global) -> Result<Bilevel, AllocError> {
     let rows = vec![in alloc; row(alloc, None, Some(4))?]?;
     let columns = vec![in alloc;

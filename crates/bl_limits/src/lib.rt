@@ -43,9 +43,6 @@ pub const MAX_PROBLEM_RHS: u64 = 1 << 62;
 /// The greatest magnitude of a number of a proof: a denominator, a multiplier, a number of an inverse: `2^50`.
 pub const MAX_PROOF_NUMBER: i64 = 1 << 50;
 
-/// The most points of a box that is walked.
-pub const MAX_WALK_POINTS: u64 = 1_000_000;
-
 /// The pivots that one relaxation may take: this many, and `PIVOTS_PER_LINE` more for each row and column.
 pub const PIVOTS_AT_LEAST: u32 = 1_000;
 
