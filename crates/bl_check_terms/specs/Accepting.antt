@@ -1,7 +1,7 @@
 -- Trusted. Which texts are accepted as certificates, and at which line and by which rule another one is refused. Nothing
 -- here asks who wrote the text.
-use Rattle.std.specs.Prelude.{ℕ, ◌≡◌, ◌+◌, ◌<◌, List, [], ◌∷◌, ◌++◌, length, Result, Ok, Err}
-use Rattle.bl_terms.specs.Programs.{Program, IsProgram}
+use Rattle.std.specs.Prelude.{ℕ, ◌≡◌, ◌+◌, ◌<◌, List, [], ◌∷◌, ◌++◌, length}
+use Rattle.bl_terms.specs.Programs.{Program}
 use Rattle.bl_model.specs.View.{IsModel}
 use Rattle.bl_cert_terms.specs.declared.stated.Statement.{Statement}
 use Rattle.bl_cert_terms.specs.Certificates.{Certificate, IsAccepted, StatementHolds}

@@ -1,13 +1,13 @@
 -- Trusted. The certificate that lines say, which grows line by line: what stands at the end of its lists is the entry,
 -- the cut or the tree that is being read.
-use Rattle.std.specs.Prelude.{ℕ, ℤ, pos, ◌+◌, List, [], ◌∷◌, ◌++◌, length, map, unsigned_abs}
-use Rattle.bl_terms.specs.Points.{Area, Linear}
+use Rattle.std.specs.Prelude.{ℕ, ℤ, pos, ◌+◌, Bool, List, [], ◌∷◌, ◌++◌, length, map, unsigned_abs}
+use Rattle.bl_terms.specs.Points.{Area}
 use Rattle.bl_terms.specs.Programs.{Program}
 use Rattle.bl_terms.specs.Responses.{Entry, Best, NoResponse}
 use Rattle.bl_terms.specs.Trees.{BareNode, Leaf, Split}
 use Rattle.bl_terms.specs.Bounds.{Multipliers}
 use Rattle.bl_cut_terms.specs.declared.parts.Tight.{Tight}
-use Rattle.bl_cut_terms.specs.NoGoods.{CutStep, LocalRow, local_row, no_step, cut_row}
+use Rattle.bl_cut_terms.specs.NoGoods.{CutStep, local_row, no_step, cut_row}
 use Rattle.bl_cert_terms.specs.declared.stated.Statement.{Statement}
 use Rattle.bl_cert_terms.specs.declared.stated.Statement.TheVariants.{Optimal, Infeasible}
 use Rattle.bl_cert_terms.specs.Certificates.{ProvedEntry, LeafProof, Bounded, NoAnswer, Certificate}

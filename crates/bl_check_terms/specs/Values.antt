@@ -1,6 +1,6 @@
 -- Trusted. What the words of a line stand for, and how they are written. A text lists only the multipliers other than
 -- 0, each with its index; it names the follower's columns, in his trees too, by their indices in the program.
-use Rattle.std.specs.Prelude.{ℕ, zero, suc, ℤ, pos, List, [], ◌∷◌, length, map, if◌then◌else◌, nat_eq, unsigned_abs}
+use Rattle.std.specs.Prelude.{ℕ, suc, ℤ, pos, List, [], ◌∷◌, map, if◌then◌else◌, nat_eq, unsigned_abs}
 use Rattle.std.specs.Ordering.{int_eq}
 use Rattle.std.specs.List.{range_with_len, zip}
 use Rattle.bl_terms.specs.Points.{Area, values_at}
