@@ -1,0 +1,10 @@
+pub mod Accepted
+pub mod CutSteps
+pub mod EntrySteps
+pub mod FollowerBoxes
+pub mod Lasts
+pub mod Links
+pub mod Numbers
+pub mod Standing
+pub mod TreeSteps
+pub mod Trees

@@ -1,5 +1,5 @@
--- Trusted. Which texts are accepted as certificates, and at which line and by which rule another one is refused. Nothing
--- here asks who wrote the text.
+-- Trusted. Which texts are accepted as certificates, and at which line and by which rule another one is refused.
+-- Nothing here asks who wrote the text.
 use Rattle.std.specs.Prelude.{ℕ, ◌≡◌, ◌+◌, ◌<◌, List, [], ◌∷◌, ◌++◌, length}
 use Rattle.bl_terms.specs.Programs.{Program}
 use Rattle.bl_model.specs.View.{IsModel}
