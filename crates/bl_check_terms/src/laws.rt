@@ -1,7 +1,12 @@
 //! Laws of accepted texts.
-ghost use Rattle.bl_check_terms.specs.Accepting.{TextIsAccepted};
+ghost use Rattle.bl_check_terms.specs.Accepting.{AcceptanceLaw, TextIsAccepted};
 
 /// What an accepted text says is an accepted certificate.
 pub fn text_is_accepted()
     ensures { TextIsAccepted }
+{}
+
+/// What an accepted text states is true of the program.
+pub fn acceptance_law()
+    ensures { AcceptanceLaw }
 {}
