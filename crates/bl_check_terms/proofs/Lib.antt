@@ -8,3 +8,4 @@ pub mod Numbers
 pub mod Standing
 pub mod TreeSteps
 pub mod Trees
+pub mod Verdict

@@ -9,7 +9,7 @@ use Rattle.std.proofs.lemmas.List.{length-map, get_or-map}
 use Rattle.std.proofs.lemmas.List.Elements.{All-tail}
 use Rattle.bl_limits.specs.declared.TheConstants.{MAX_PROOF_NUMBER}
 use Rattle.bl_terms.specs.Points.{IsArea, IsWithinArea}
-use Rattle.bl_terms.specs.Programs.{Program, columns, root}
+use Rattle.bl_terms.specs.Programs.{Program, root}
 use Rattle.bl_terms.proofs.TestLemmas.{pos-unsigned_abs}
 use Rattle.bl_cut_terms.specs.NoGoods as cuts
 use Rattle.bl_certline.specs.declared.line.TightItem.{TightItem}
