@@ -1,7 +1,6 @@
 pub mod Weights
 pub mod EntryLemmas
 pub mod CutLemmas
-pub mod Followings
 pub mod PlacedLeaves
 pub mod TreeLemmas
 pub mod AloneLemmas

@@ -354,7 +354,7 @@ adopt_none : (tight : List Tight) (k : ℕ) (cuts : List NoGoodCut) (b : Adopted
     → adopt_cuts tight k cuts None ≡ Some b → ⊥
 adopt_none tight k cuts b e = cc
 
-adopt_cuts_shown : (p : Program) (tight : List Tight) (cuts : List NoGoodCut) (k : ℕ) (rows : List LocalRow)
+pub adopt_cuts_shown : (p : Program) (tight : List Tight) (cuts : List NoGoodCut) (k : ℕ) (rows : List LocalRow)
     (a b : Adopted) → k ≡ length rows → UsedAreShown p tight k cuts → IsNoted p tight rows a
     → adopt_cuts tight k cuts (Some a) ≡ Some b → IsNoted p tight (rows ++ map cut_of cuts) b
 adopt_cuts_shown p tight [] k rows a b at used g e =
@@ -395,7 +395,7 @@ adopt_cuts_shown p tight (c ∷ cuts) k rows a b at used g e =
 
 -- ---- the cut's own step
 
-used_here : (tight : List Tight) (i k : ℕ) → i < length tight → slice_index_or tight i (Row 0) ≡ Cut k
+pub used_here : (tight : List Tight) (i k : ℕ) → i < length tight → slice_index_or tight i (Row 0) ≡ Cut k
     → IsTrue (is_used k tight)
 used_here [] i k b e = absurd (omega arith)
 used_here (x ∷ tight) zero k b e =

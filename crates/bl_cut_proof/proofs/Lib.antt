@@ -5,7 +5,10 @@ pub mod Sorting
 pub mod Moves
 pub mod TakenSteps
 pub mod AloneLemmas
+pub mod Ranks
+pub mod Followings
 pub mod CodeLemmas
 pub mod RowLemmas
 pub mod ResponseLemmas
 pub mod ProveLemmas
+pub mod TakenCuts

@@ -112,7 +112,7 @@ used_program p earlier (x ∷ tight) j all used =
     by (Lower i) h of = absurd cc
     by (Cut i) h of = subst (λ (k : ℕ). (cut_at earlier k).program ≡ p) ((Decides-eqb i j).0 h) of
 
-used_shown : (p : Program) (earlier : List NoGoodCut) (tight : List Tight) → AreProvedCuts earlier
+pub used_shown : (p : Program) (earlier : List NoGoodCut) (tight : List Tight) → AreProvedCuts earlier
     → All (IsOfProgram p earlier) tight → UsedAreShown p tight 0 earlier
 used_shown p earlier tight cuts models j b used =
     let here : 0 + j ≡ j = omega arith in

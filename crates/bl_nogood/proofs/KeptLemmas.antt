@@ -226,12 +226,14 @@ pub made_parts : (p : Program) (a : Area) (earlier : List NoGoodCut) (z y : List
     → n ≡ length candidates → AreMadeParts p a earlier z y parts n
 made_parts p a earlier z y candidates items rows basis parts n within inside response cheaper c s e gives b is count =
     let are : parts ≡ parts_of candidates basis z y = is ∙ ap (λ xs. parts_of xs basis z y) s in
+    let at : ℕ → Tight = λ i. item_at candidates i in
     record {
       candidates = candidates;
       basis = basis;
       eliminated = is_eliminated p a earlier z candidates rows (Ok basis) e c gives;
       parts_are = are;
       count_is = count;
+      square = ap (λ (x : CutParts). length x.tight) are ∙ length-map basis.kept at ∙ b.count ∙ within.columns;
       shown = subst (IsShown p a earlier) (sym are)
           (kept_shown p a earlier z y candidates basis within (point_of_part within inside) response cheaper c
           (basis_at p a earlier candidates rows basis e b));

@@ -1,7 +1,7 @@
 -- Internal. Items of one kind; how the elimination fails as a failure to make a cut; and the parts that it makes.
 use Rattle.std.specs.Prelude.{◌≡◌, ℕ, ℤ, List, length, Ok}
 use Rattle.bl_terms.specs.Points.{Area}
-use Rattle.bl_terms.specs.Programs.{Program}
+use Rattle.bl_terms.specs.Programs.{Program, columns}
 use Rattle.bl_cut_terms.specs.declared.parts.Tight.{Tight}
 use Rattle.bl_cut_terms.specs.declared.parts.Tight.TheVariants.{Row, Upper, Lower, Cut}
 use Rattle.bl_cut_terms.specs.declared.parts.CutParts.{CutParts}
@@ -27,7 +27,8 @@ fails_as (no_basis.NotUnique pivots) = NotUnique pivots
 fails_as (no_basis.TooLarge position) = TooLarge position
 fails_as no_basis.Memory = Memory
 
--- the parts are those of the candidates that are kept, of so many candidates, and show the cut
+-- the parts are those of the candidates that are kept, of so many candidates, and show the cut. As many are kept as
+-- there are columns
 pub record AreMadeParts (p : Program) (a : Area) (earlier : List NoGoodCut) (z y : List ℤ) (parts : CutParts)
     (count : ℕ) : Type 0 where
   pub candidates : List Tight
@@ -35,4 +36,5 @@ pub record AreMadeParts (p : Program) (a : Area) (earlier : List NoGoodCut) (z y
   pub eliminated : IsEliminated p a earlier z candidates (Ok basis)
   pub parts_are : parts ≡ parts_of candidates basis z y
   pub count_is : count ≡ length candidates
+  pub square : length parts.tight ≡ columns p
   pub shown : IsShown p a earlier parts

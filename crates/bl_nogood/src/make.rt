@@ -85,6 +85,7 @@ pub fn make_cut(
     match assemble(alloc, model, area, earlier, parts) {
         Ok(Some(cut)) => Ok(cut),
         Ok(None) => Err(NoCut::TooLarge { position: count }),
+        // There is no other fault.
         Err(_) => Err(NoCut::Memory),
     }
 }
