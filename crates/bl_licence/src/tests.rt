@@ -193,6 +193,67 @@ fn runs_to_a_proof_past_the_limit(rt: HostRuntime) -> Result<(), Fail> {
     Ok(())
 }
 
+const CIRCLING: [[i64; 4]; 4] = [[-1, 0, 1, -2], [2, 1, 1, 2], [2, 2, -2, 1], [1, -1, 0, 0]];
+
+/// So many pivots, which begin with these three and then go round.
+fn circle(
+    alloc: Global,
+    first: [(u32, u32); 3],
+    count: usize,
+) -> Result<Listed<(u32, u32)>, AllocError> {
+    let round = [(7, 3), (0, 2), (1, 0)];
+    let mut list: Vec<(u32, u32)> = Vec::from_slice(alloc, &first)?;
+    for k in 0..count {
+        list.push(round[k % 3])?;
+    }
+    list.truncate(count);
+    Ok(Listed::new(list))
+}
+
+fn is_tired(
+    rt: &impl Abort,
+    alloc: Global,
+    problem: &Problem<'_>,
+    cutoff: Option<i64>,
+    first: [(u32, u32); 3],
+    count: usize,
+) -> Result<bool, AllocError> {
+    let why = Why::Tired {
+        pivots: circle(alloc, first, count)?,
+    };
+    is_licensed(rt, alloc, problem, cutoff, &why)
+}
+
+// Without a cost every column of a negative entry has the ratio 0, and that of the least label enters. After the first
+// three pivots two rounds of three lead to the same dictionary again. The limit is 1000 + 20 * 8.
+#[test]
+fn goes_round_to_the_limit(rt: HostRuntime) -> Result<(), Fail> {
+    let (cost, lo, hi, rows) = ([0; 4], [0; 4], [1, 2, 1, 3], CIRCLING);
+    let mut problem = Problem::start(rt.alloc(), &cost, &lo, &hi);
+    problem.row(&rows[0], -2)?;
+    problem.row(&rows[1], 1)?;
+    problem.row(&rows[2], 2)?;
+    problem.row(&rows[3], 1)?;
+    let first = [(0, 0), (2, 3), (1, 1)];
+    let table: [(Option<i64>, [(u32, u32); 3], usize, bool); 6] = [
+        (None, first, 1160, true),
+        (Some(1), first, 1160, true),
+        // The cost 0 is above -1.
+        (Some(0), first, 1160, false),
+        (None, first, 1159, false),
+        (None, first, 1161, false),
+        // Column 3 has the same ratio as column 0, and the greater label.
+        (None, [(0, 3), (2, 3), (1, 1)], 1160, false),
+    ];
+    for (cutoff, first, count, expected) in table {
+        assert_eq!(rt;
+            is_tired(&rt, rt.alloc(), &problem, cutoff, first, count)?,
+            expected
+        );
+    }
+    Ok(())
+}
+
 #[test]
 fn a_better_response_is_no_licence_of_a_problem(rt: HostRuntime) -> Result<(), Fail> {
     let (cost, lo, hi) = ([1], [0], [1]);
