@@ -34,7 +34,7 @@ placed (x ∷ xs) k c = by (λ there. placed xs k there) (nat_eq x k) refl
     ]
 
 -- at the other places of a list that rises stand other numbers
-other_number : (ks : List ℕ) (k i j : ℕ) → IsStrictlyIncreasing ks → IsPlaced ks k j → i < length ks → i ≢ j
+pub other_number : (ks : List ℕ) (k i j : ℕ) → IsStrictlyIncreasing ks → IsPlaced ks k j → i < length ks → i ≢ j
     → slice_index ks i ≢ k
 other_number ks k i j rising at b ne same = elim (cases_lt i j) [
   | inl lower ↦

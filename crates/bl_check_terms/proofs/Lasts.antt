@@ -14,12 +14,12 @@ last_step-push [] s = refl
 last_step-push (x ∷ []) s = refl
 last_step-push (x ∷ y ∷ steps) s = last_step-push (y ∷ steps) s
 
-before_last-push : {A : Type 0} (xs : List A) (x : A) → before_last (xs ++ x ∷ []) ≡ xs
+pub before_last-push : {A : Type 0} (xs : List A) (x : A) → before_last (xs ++ x ∷ []) ≡ xs
 before_last-push [] x = refl
 before_last-push (y ∷ []) x = refl
 before_last-push (y ∷ z ∷ xs) x = ap (λ ys. y ∷ ys) (before_last-push (z ∷ xs) x)
 
-at_last-push : {A : Type 0} (f : A → A) (xs : List A) (x : A) → at_last f (xs ++ x ∷ []) ≡ xs ++ f x ∷ []
+pub at_last-push : {A : Type 0} (f : A → A) (xs : List A) (x : A) → at_last f (xs ++ x ∷ []) ≡ xs ++ f x ∷ []
 at_last-push f [] x = refl
 at_last-push f (y ∷ []) x = refl
 at_last-push f (y ∷ z ∷ xs) x = ap (λ ys. y ∷ ys) (at_last-push f (z ∷ xs) x)

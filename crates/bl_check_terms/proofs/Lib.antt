@@ -5,7 +5,13 @@ pub mod FollowerBoxes
 pub mod Lasts
 pub mod Links
 pub mod Numbers
+pub mod Pairs
+pub mod Readings
 pub mod Standing
 pub mod TreeSteps
 pub mod Trees
 pub mod Verdict
+pub mod Written
+pub mod WrittenCuts
+pub mod WrittenEntries
+pub mod WrittenTree

@@ -1,5 +1,5 @@
 -- Trusted. The text of a certificate, in version 2, and that the text of an accepted certificate is accepted.
-use Rattle.std.specs.Prelude.{ℕ, ℤ, pos, negsuc, List, [], ◌∷◌, ◌++◌, length, map, slice_index}
+use Rattle.std.specs.Prelude.{ℕ, ℤ, pos, negsuc, List, [], ◌∷◌, ◌++◌, length, map, slice_index, All}
 use Rattle.std.specs.List.{flat_map}
 use Rattle.std.specs.Ordering.{int_eq}
 use Rattle.bl_terms.specs.Programs.{Program}
@@ -69,10 +69,17 @@ lines_of p c =
 abbrev pub certificate_text : Program → Certificate → Bytes
 certificate_text p c = text_of (lines_of p c)
 
+-- ---- numbers
+
+-- the numbers of entries, of cuts and of each cut's tight items have 64 bits
+pub record HasCounts (c : Certificate) : Type 0 where
+  pub entries : IsCount (pos (length c.entries))
+  pub cuts : IsCount (pos (length c.cuts))
+  pub tight : All (λ s. IsCount (pos (length s.parts.tight))) c.cuts
+
 -- THE LAW
 
--- the text of an accepted certificate, the numbers of whose entries and cuts have 64 bits, is accepted, and says it
+-- the text of an accepted certificate whose lists can be counted is accepted, and says it
 abbrev pub WrittenIsAccepted : Type 0
 WrittenIsAccepted =
-    (p : Program) (c : Certificate) → IsModel p → IsAccepted p c
-    → IsCount (pos (length c.entries)) → IsCount (pos (length c.cuts)) → IsTextOf p (certificate_text p c) c
+    (p : Program) (c : Certificate) → IsModel p → IsAccepted p c → HasCounts c → IsTextOf p (certificate_text p c) c
