@@ -7,16 +7,17 @@ ghost use Rattle.bl_terms.specs.Trees.{CanSplit};
 ghost use Rattle.bl_leaf_terms.specs.Nodes.{IsLicensedBox};
 ghost use Rattle.bl_node.specs.NodeCuts.{IsTried};
 ghost use Rattle.bl_node.specs.Works.{IsSoundJob, job_of, IsWorked};
-ghost use Rattle.bl_node.specs.Standing.{IsFound, cutoff_with, AreNodeCuts};
+ghost use Rattle.bl_node.specs.Standing.{IsFound, IsSmallValue, cutoff_with, AreNodeCuts};
 
 use crate::cuts::NodeCuts;
 use crate::found::share;
 use crate::nodes::Worked;
+use bl_branch::Guide;
 use bl_licence::Why;
 use bl_model::{Bilevel, Box2, Halves};
-use bl_place::{Place, fractional, widest, widest_among};
+use bl_place::{Place, can_split, fractional, widest, widest_among};
 use bl_pool::Kept;
-use bl_tree::{Incumbent, ProvedWhy, Task};
+use bl_tree::{Incumbent, ProvedWhy, Task, plain_problem};
 use std::alloc::{AllocError, Global};
 use std::sync::Arc;
 
@@ -48,7 +49,50 @@ fn place_for(model: &Bilevel, area: &Box2, why: &Why) -> Place
     }
 }
 
-/// Divides the box with a licence for the cutoff of what is found. The halves inherit its cuts.
+/// Where the guide would split the box, if that is a place that splits it.
+fn proposed_place(
+    alloc: Global,
+    task: &Task,
+    value: Option<i64>,
+    guide: &mut Guide,
+) -> Result<Option<Place>, AllocError>
+    requires job { IsSoundJob (job_of task.now) }
+    requires small { IsSmallValue value }
+    ensures { IfOk result (λ o. IfSome o (λ place. CanSplit (job_of task.now).area place.column place.at)) }
+{
+    let (model, area) = (&task.model, &task.area);
+    let problem = plain_problem(alloc, model, area, value)?;
+    let Some(place) = guide.place(task.node, &problem, model.links())? else {
+        return Ok(None);
+    };
+    if can_split(area.lo(), area.hi(), place.column as usize, place.at) {
+        Ok(Some(place))
+    } else {
+        Ok(None)
+    }
+}
+
+/// Where the box is split: where the guide proposes, else where the licence asks for it.
+fn chosen_place(
+    alloc: Global,
+    task: &Task,
+    why: &Why,
+    value: Option<i64>,
+    guide: &mut Guide,
+) -> Result<Place, AllocError>
+    requires job { IsSoundJob (job_of task.now) }
+    requires several { ¬ IsOnePoint (job_of task.now).area }
+    requires small { IsSmallValue value }
+    ensures { IfOk result (λ place. CanSplit (job_of task.now).area place.column place.at) }
+{
+    match proposed_place(alloc, task, value, guide)? {
+        Some(place) => Ok(place),
+        None => Ok(place_for(&task.model, &task.area, why)),
+    }
+}
+
+/// Divides the box with a licence for the cutoff of what is found. The halves inherit its cuts. The value is that of
+/// the entry, for which the relaxation had a row.
 pub(crate) fn divide(
     alloc: Global,
     task: &Task,
@@ -56,6 +100,8 @@ pub(crate) fn divide(
     why: Why,
     kept: Option<Kept>,
     cuts: NodeCuts,
+    value: Option<i64>,
+    guide: &mut Guide,
 ) -> Result<Worked, AllocError>
     requires job { IsSoundJob (job_of task.now) }
     requires several { ¬ IsOnePoint (job_of task.now).area }
@@ -65,9 +111,10 @@ pub(crate) fn divide(
     requires cuts { AreNodeCuts (job_of task.now) cuts.all cuts.made }
     requires tried { IsTried (job_of task.now).program (job_of task.now).area (job_of task.now).node
         (job_of task.now).cuts cuts.made why }
+    requires small { IsSmallValue value }
     ensures { IfOk result (IsWorked (job_of task.now)) }
 {
-    let place = place_for(&task.model, &task.area, &why);
+    let place = chosen_place(alloc, task, &why, value, guide)?;
     let halves = Halves::make(alloc, task.area.clone()?, place.column, place.at)?;
     let cutoff = share(task, &found)?;
     let model = task.model.clone()?;

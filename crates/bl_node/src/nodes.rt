@@ -113,7 +113,8 @@ fn work_fixed<S: Source>(
         }
         Relaxation::Stuck(why) => {
             let cuts = NodeCuts::inherited(alloc, task)?;
-            Ok(divide(alloc, task, found, why, Some(kept), cuts)?)
+            let (kept, value, guide) = (Some(kept), Some(value), &mut scratches.guide);
+            Ok(divide(alloc, task, found, why, kept, cuts, value, guide)?)
         }
     }
 }
@@ -146,7 +147,10 @@ fn work_free<S: Source>(
             &mut cuts,
         )? {
             Round::Closed(leaf) => return Ok(Worked::Close { leaf, found }),
-            Round::Stuck(why) => return Ok(divide(alloc, task, found, why, None, cuts)?),
+            Round::Stuck(why) => {
+                let guide = &mut scratches.guide;
+                return Ok(divide(alloc, task, found, why, None, cuts, None, guide)?);
+            }
             Round::Fell => {}
         }
     }

@@ -16,13 +16,14 @@ use bl_tree::State;
 use std::alloc::{AllocError, Global};
 use std::sync::Arc;
 
-/// The next node to work on: the last one put off that is ready, else the first one that is ready at all.
-fn next_node(book: &Book, put_off: &mut Vec<u32>) -> Option<u32>
+/// The next node to work on: the one that leads the branching best, if it is ready, else the first one that is ready at
+/// all.
+fn next_node(book: &Book, scratches: &mut Scratches) -> Option<u32>
     requires { IsIdle book.now.ledger.book }
     ensures { MatchOption result (IsFinished book.now.ledger.book)
         (λ node. HasStatus book.now.ledger.book node Ready) }
 {
-    while let Some(node) = put_off.pop() {
+    if let Some(node) = scratches.next_node() {
         if let Some(State::Ready) = book.state(node) {
             return Some(node);
         }
@@ -30,8 +31,7 @@ fn next_node(book: &Book, put_off: &mut Vec<u32>) -> Option<u32>
     book.next_ready(0)
 }
 
-/// Works on nodes until none is left, or a limit is spent. The low half of a split comes first, and the high one is put
-/// off.
+/// Works on nodes until none is left, or a limit is spent. The node of least bound comes next.
 fn search<S: Source>(
     alloc: Global,
     mut book: Book,
@@ -42,18 +42,14 @@ fn search<S: Source>(
     requires follower { 1 ≤ follower_nodes }
     ensures { IfOk result (λ o. IsEnd follower_nodes book.ledger.book o.book.ledger o.end) }
 {
-    let mut put_off = Vec::new(alloc);
     let mut scratches = Scratches::new(alloc);
     'nodes: loop {
-        let Some(node) = next_node(&book, &mut put_off) else {
+        let Some(node) = next_node(&book, &mut scratches) else {
             return Ok(Outcome::make(book, Ended::Done));
         };
         match take_turn(alloc, &mut book, node, pool, follower_nodes, &mut scratches)? {
             Turn::Closed => {}
-            Turn::Divided { low, high } => {
-                put_off.push(high)?;
-                put_off.push(low)?;
-            }
+            Turn::Divided { low, high } => scratches.split(low, high)?,
             Turn::Ended(end) => return Ok(Outcome::make(book, end)),
         }
     }
