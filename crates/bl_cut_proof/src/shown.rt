@@ -17,8 +17,8 @@ use bl_model::{Bilevel, Box2};
 use std::alloc::Global;
 use std::sync::Arc;
 
-/// The cut of parts that are known to show it, none where a number of its row is too large. Of as many rows as there are
-/// columns no two are equal, so the steps of the cut can't fail, and the one fault is want of memory.
+/// The cut of parts that are known to show it, none where a number of its row is too large. Of as many rows as there
+/// are columns no two are equal, so the steps of the cut can't fail, and the one fault is want of memory.
 pub fn assemble(
     alloc: Global,
     model: Arc<Bilevel, Global>,
