@@ -1,0 +1,3 @@
+pub mod EntryRules
+pub mod Insertions
+pub mod ListedNumbers

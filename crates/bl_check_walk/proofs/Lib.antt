@@ -1,0 +1,3 @@
+pub mod FirstLines
+pub mod ReadLines
+pub mod Verdicts
