@@ -1,38 +1,21 @@
 //! Small problems, solved by hand.
-ghost use Rattle.bl_terms.specs.Points.{IsArea};
-
 use super::*;
 use bl_bound::Problem;
-use std::alloc::{AllocError, Global};
 use std::test::Fail;
-
-/// The problem of one row.
-fn one_row<'a>(
-    alloc: Global,
-    cost: &'a [i64; 2],
-    lo: &'a [i64; 2],
-    hi: &'a [i64; 2],
-    coef: &'a [i64; 2],
-    rhs: i64,
-) -> Result<Problem<'a>, AllocError>
-    requires { IsArea (record { lo = lo.now; hi = hi.now }) }
-{
-    let mut problem = Problem::start(alloc, cost, lo, hi);
-    problem.row(coef, rhs)?;
-    Ok(problem)
-}
 
 // Maximise X + 2Y over 2X + 2Y <= 3: the optimum is (0, 3/2). With Y up to 1 and 4 for 3 it is (1, 1), and X is split,
 // which links.
 #[test]
 fn places(rt: HostRuntime) -> Result<(), Fail> {
     let (cost, lo, hi, coef) = ([-1, -2], [0, 0], [3, 3], [2, 2]);
-    let problem = one_row(rt.alloc(), &cost, &lo, &hi, &coef, 3)?;
+    let mut problem = Problem::start(rt.alloc(), &cost, &lo, &hi);
+    problem.row(&coef, 3)?;
     let mut guide = Guide::new(rt.alloc());
     let place = guide.place(0, &problem, &[0])?;
     assert_eq!(rt; place.map(|place| (place.column, place.at)), Some((1, 1)));
     let hi = [3, 1];
-    let problem = one_row(rt.alloc(), &cost, &lo, &hi, &coef, 4)?;
+    let mut problem = Problem::start(rt.alloc(), &cost, &lo, &hi);
+    problem.row(&coef, 4)?;
     let place = guide.place(0, &problem, &[0])?;
     assert_eq!(rt; place.map(|place| (place.column, place.at)), Some((0, 1)));
     Ok(())
@@ -60,7 +43,8 @@ fn hostile_problems(rt: HostRuntime) -> Result<(), Fail> {
     let empty = Problem::start(rt.alloc(), &[], &[], &[]);
     assert!(rt; guide.place(7, &empty, &[5])?.is_none());
     let (cost, lo, hi, coef) = ([1, -1], [3, 3], [3, 3], [1, 1]);
-    let problem = one_row(rt.alloc(), &cost, &lo, &hi, &coef, 6)?;
+    let mut problem = Problem::start(rt.alloc(), &cost, &lo, &hi);
+    problem.row(&coef, 6)?;
     assert!(rt; guide.place(0, &problem, &[1, 9])?.is_none());
     Ok(())
 }
