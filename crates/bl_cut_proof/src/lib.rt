@@ -20,7 +20,10 @@ mod units;
 
 pub use fault::CutFault;
 pub use prove::prove_cut;
+pub use response::has_better_response;
 pub use rows::{tight_row, tight_rows};
 pub use shown::assemble;
 pub use size::is_usable;
-pub use tight::holds_at;
+pub use steps::adopt_used;
+pub use sums::{is_unit_of, lowered_sum};
+pub use tight::{hold_with_equality, holds_at};

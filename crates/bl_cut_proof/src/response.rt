@@ -20,7 +20,7 @@ fn is_cheaper_point(problem: &Problem<'_>, point: &[i64], cost: i64) -> bool
 }
 
 /// Whether the response is one to the point's link, and costs the follower less than the point.
-pub(crate) fn has_better_response(
+pub fn has_better_response(
     alloc: Global,
     model: &Bilevel,
     point: &[i64],

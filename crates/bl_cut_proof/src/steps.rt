@@ -134,7 +134,7 @@ fn last_place(places: &[u32]) -> u32
 }
 
 /// Takes over the steps of a cut that is used, and gives the place of its last.
-fn adopt_used(
+pub fn adopt_used(
     alloc: Global,
     steps: &mut Vec<Arc<CutStep, Global>>,
     cut: &ProvedCut,

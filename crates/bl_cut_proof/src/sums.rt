@@ -108,7 +108,7 @@ fn column_sums(
 }
 
 /// The sum of the rows with its right-hand side lowered by 1, none where a number of it is too large.
-pub(crate) fn lowered_sum(
+pub fn lowered_sum(
     alloc: Global,
     rows: &[CutRow],
     columns: usize,
@@ -159,7 +159,13 @@ fn combined(rows: &[CutRow], unit: &[(u32, i64)], column: usize, columns: usize)
 }
 
 /// Whether a unit combines the rows to `den` times one column alone.
-fn is_unit_of(rows: &[CutRow], unit: &[(u32, i64)], den: i64, alone: usize, columns: usize) -> bool
+pub fn is_unit_of(
+    rows: &[CutRow],
+    unit: &[(u32, i64)],
+    den: i64,
+    alone: usize,
+    columns: usize,
+) -> bool
     requires rows { AreRows columns rows.now }
     requires few { length rows.now < 2 ^ 32 }
     requires unit { IsUnit (length rows.now) unit.now }

@@ -23,7 +23,7 @@ pub fn holds_at(row: &CutRow, point: &[i64]) -> bool
 }
 
 /// Whether each row holds with equality at a point of the model's box.
-fn hold_with_equality(model: &Bilevel, rows: &[CutRow], point: &[i64]) -> bool
+pub fn hold_with_equality(model: &Bilevel, rows: &[CutRow], point: &[i64]) -> bool
     requires model { IsModel model.now }
     requires rows { AreRows (column_count model.now) rows.now }
     requires inside { InBox model.now point.now }
