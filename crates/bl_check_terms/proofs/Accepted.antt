@@ -39,20 +39,24 @@ step p (parts.Head cuts) g = step_head p cuts
 step p (parts.Tree a cuts) g = step_tree p a cuts
 step p parts.End g = step_end p
 
--- from what stands, right lines lead to an accepted certificate
-leads_to_accepted : (p : Program) (expected : List Part) (c : Certificate) (ls : List CertLine) (d : Certificate)
-    → IsModel p → Stands p expected c → Reads p expected c ls [] d → IsAccepted p d
-leads_to_accepted p expected c [] d g s h =
-    let ended : Stands p [] c = subst (λ (ps : List Part). Stands p ps c) (sym h.0) s in
-    subst (λ (x : Certificate). IsAccepted p x) (sym h.1) ended
-leads_to_accepted p [] c (line ∷ ls) d g s h = absurd h
-leads_to_accepted p (part ∷ rest) c (line ∷ ls) d g s h =
-    leads_to_accepted p (parts_behind p part line ++ rest) (with_line p part line c) ls d g
+-- from what stands, right lines lead to what stands behind them
+leads_on : (p : Program) (expected : List Part) (c : Certificate) (ls : List CertLine) (left : List Part)
+    (d : Certificate) → IsModel p → Stands p expected c → Reads p expected c ls left d → Stands p left d
+leads_on p expected c [] left d g s h =
+    let ended : Stands p left c = subst (λ (ps : List Part). Stands p ps c) (sym h.0) s in
+    subst (λ (x : Certificate). Stands p left x) (sym h.1) ended
+leads_on p [] c (line ∷ ls) left d g s h = absurd h
+leads_on p (part ∷ rest) c (line ∷ ls) left d g s h =
+    leads_on p (parts_behind p part line ++ rest) (with_line p part line c) ls left d g
     (step p part g rest c line s h.0) h.1
 
+-- what stands behind the first lines of a text
+pub standing : (p : Program) (ls : List CertLine) (left : List Part) (c : Certificate) → IsModel p
+    → Reads p start nothing ls left c → Stands p left c
+standing p ls left c g h = leads_on p start nothing ls left c g (refl, ((refl, refl, refl), refl)) h
+
 pub text_is_accepted : TextIsAccepted
-text_is_accepted p bytes c g h =
-    leads_to_accepted p start nothing h.lines c g (refl, ((refl, refl, refl), refl)) h.reads
+text_is_accepted p bytes c g h = standing p h.lines [] c g h.reads
 
 pub acceptance_law : AcceptanceLaw
 acceptance_law p bytes s g (c, text, states) =
