@@ -21,7 +21,7 @@ mod units;
 pub use fault::CutFault;
 pub use prove::prove_cut;
 pub use response::has_better_response;
-pub use rows::{tight_row, tight_rows};
+pub use rows::{copied, side, tight_row, tight_rows};
 pub use shown::assemble;
 pub use size::is_usable;
 pub use steps::adopt_used;

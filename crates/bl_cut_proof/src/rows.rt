@@ -12,7 +12,7 @@ use bl_model::{Bilevel, Box2};
 use std::alloc::{AllocError, Global};
 
 /// A row with one coefficient.
-fn side(
+pub fn side(
     alloc: Global,
     columns: usize,
     column: usize,
@@ -28,7 +28,7 @@ fn side(
 }
 
 /// A copy of a row.
-fn copied(alloc: Global, coef: &[i64], right: i64) -> Result<CutRow, AllocError>
+pub fn copied(alloc: Global, coef: &[i64], right: i64) -> Result<CutRow, AllocError>
     ensures { IfOk result (λ row. row ≡ record { coef = coef.now; rhs = right }) }
 {
     let coef = Vec::from_slice(alloc, coef)?;

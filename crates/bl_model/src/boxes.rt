@@ -44,6 +44,16 @@ impl Box2 {
         Ok(Box2 { lo, hi })
     }
 
+    /// The box with these sides.
+    pub fn with_sides(alloc: Global, lo: Vec<i64>, hi: Vec<i64>) -> Result<Box2, AllocError>
+        requires { IsBox (record { lo = lo.items; hi = hi.items }) }
+        ensures { IfOk result (λ b. b ≡ record { lo = lo.items; hi = hi.items }) }
+    {
+        let lo = Arc::new(alloc, lo)?;
+        let hi = Arc::new(alloc, hi)?;
+        Ok(Box2 { lo, hi })
+    }
+
     /// The least number of each column.
     pub fn lo(&self) -> &[i64]
         ensures value { result.now ≡ self.now.lo }

@@ -14,7 +14,7 @@ use Rattle.bl_whole.proofs.WithinLemmas.{within_low, within_high, within_from_bo
 use Rattle.bl_whole.proofs.WithinLemmas.{within_dot}
 use Rattle.bl_terms.specs.Points.{Area, IsWithinArea, Linear, zeros}
 use Rattle.bl_terms.specs.Programs.{Program, Row, columns, row_at, no_row, inequality, root}
-use Rattle.bl_terms.specs.Responses.{Entry, Best, IsTrueEntry, IsResponse, IsBest}
+use Rattle.bl_terms.specs.Responses.{Entry, Best, IsTrueEntry, IsResponse, response_cost}
 use Rattle.bl_terms.specs.Bounds.{Fits, no_linear}
 use Rattle.bl_model.specs.View.{IsModel}
 use Rattle.bl_model.specs.Boxes.{IsBox}
@@ -159,18 +159,20 @@ response_within p l y m r = record {
       within_from_bounds MAX_NUMBER (component y j) (omega (arith, ints)) (omega (arith, ints));
 }
 
-best_small : (p : Program) (l y : List ℤ) (v : ℤ) → IsModel p → IsBest p l y v → IsWithin (2 ^ 62) v
-best_small p l y v m best =
+-- what a response costs
+pub response_small : (p : Program) (l y : List ℤ) (v : ℤ) → IsModel p → IsResponse p l y → response_cost p y ≡ v
+    → IsWithin (2 ^ 62) v
+response_small p l y v m response value =
     let costs = values_within MAX_NUMBER p.follower_cost p.follower
     (record { each = λ k _. m.limits.follower_costs k }) in
-    let cost = within_dot costs (response_within p l y m best.response) in
+    let cost = within_dot costs (response_within p l y m response) in
     let size = length-map p.follower (λ k. component p.follower_cost k) in
     let few = follower_few p m in
-    subst (IsWithin (2 ^ 62)) best.value (within_more cost (rw size (omega arith)))
+    subst (IsWithin (2 ^ 62)) value (within_more cost (rw size (omega arith)))
 
 pub value_small : (e : Admitted) (y : List ℤ) (v : ℤ) → IsAdmitted e → entry_of e.answered ≡ Best y v
     → IsWithin (2 ^ 62) v
 value_small e y v is best =
     let h : IsTrueEntry e.program e.link (Best y v) =
     subst (λ (x : Entry). IsTrueEntry e.program e.link x) best (admitted_is_true e is) in
-    best_small e.program e.link y v is.model h
+    response_small e.program e.link y v is.model h.response h.value
