@@ -1,0 +1,2 @@
+-- Internal. What a cut adds up.
+pub mod Sums
