@@ -41,8 +41,8 @@ last_row [] = no_local_row
 last_row (r ∷ []) = r
 last_row (r ∷ s ∷ rows) = last_row (s ∷ rows)
 
--- these are the cuts, and of the last one the rows that it adds up, which have 32-bit places, the number of its inverse,
--- how many units it has, and its point
+-- these are the cuts, and of the last one the rows that it adds up, which have 32-bit places, the number of its
+-- inverse, how many units it has, and its point
 pub record AreCuts (p : Program) (held : HeldCuts) (cuts : List CutStep) : Type 0 where
   pub rows : held.cuts.items ≡ map local_row cuts
   pub tight : held.tight.items

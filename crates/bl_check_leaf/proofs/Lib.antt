@@ -1,0 +1,3 @@
+pub mod CitedCuts
+pub mod EntriesKept
+pub mod LeafRules
