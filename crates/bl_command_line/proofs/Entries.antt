@@ -1,179 +1,168 @@
 -- What clap finds of words that are a command's.
-use Rattle.std.proofs.Common.{◌≡◌, ℕ, ℤ, Bool, true, false, cond, List, [], ◌∷◌, Option, Some, refl, sym, ap}
-use Rattle.std.proofs.Common.{subst, ◌∙◌, codes, ◌&&◌, fold, is_some, pos}
-use Rattle.std.specs.List.{list_all}
+use Rattle.std.proofs.Common.{◌≡◌, ℕ, List, [], ◌∷◌, Option, Some, None, refl, true, false, sym, ap, subst}
+use Rattle.std.proofs.Common.{◌∙◌, codes, is_some}
+use Rattle.std.specs.Prelude.{slice_get}
 use Rattle.std.specs.Option.{option_to_list}
-use Rattle.clap.specs.Walk.{Walk, Held, Row, Rule, default_rows, finished, has_row, nothing_held, reading_by}
-use Rattle.clap.specs.Walk.{walk_from, walked, with_default}
-use Rattle.clap.specs.Takes.{default_passes, entered_passes, is_given, is_valid, settle_passes, walk_passes}
-use Rattle.clap.specs.Simple.{built, entered}
-use Rattle.clap.specs.Words.{takes, matches_of, first_of, is_simple}
-use Rattle.clap.proofs.OnLiterals.{clap_on_literals}
+use Rattle.clap.specs.Walk.{Walk, Row, finished}
+use Rattle.clap.specs.Takes.{is_valid}
+use Rattle.clap.specs.Words.{takes, matches_of, first_of}
 use Rattle.bl_words.specs.declared.commands.Command.{Command}
-use Rattle.bl_words.specs.declared.commands.Command.TheVariants.{Solve, Show}
+use Rattle.bl_words.specs.declared.commands.Command.TheVariants.{Solve, Show, Check}
 use Rattle.bl_words.specs.declared.commands.Choice.{Choice}
-use Rattle.bl_words.specs.declared.commands.Choice.TheVariants.{DefaultUpper, Nodes, FollowerNodes}
-use Rattle.bl_words.specs.Commands.{name_of}
-use Rattle.bl_words.specs.Items.{Item, IsNumber, texts_of, AreModelItems, AreModelWords}
+use Rattle.bl_words.specs.declared.commands.Choice.TheVariants.{DefaultUpper, Nodes, FollowerNodes, Cert}
+use Rattle.bl_words.specs.declared.commands.Limits.{Limits}
+use Rattle.bl_words.specs.Commands.{name_of, upper_limits, node_limits, follower_limits}
+use Rattle.bl_words.specs.Items.{Item, IsNumber, Said, AreSpelled, AreModelItems, AreModelWords, HasCert, texts_of}
 use Rattle.bl_command_line.specs.Apps.{id_of, model_app}
-use Rattle.bl_command_line.proofs.Rows.{Text, Entry, rows, first-is, is-given}
-use Rattle.bl_command_line.proofs.Turns.{Stands, shape, rules, held_of, idle_at, and-both}
-use Rattle.bl_command_line.proofs.Walks.{IsOnce, Arrives, arrives}
+use Rattle.bl_command_line.proofs.Rows.{Text, Entry, IsOnce, rows, texts_named, value_of, first-is, given-is, once-one}
+use Rattle.bl_command_line.proofs.Rows.{first-one, once-first}
+use Rattle.bl_command_line.proofs.Shapes.{shape, has-mps, has-aux, has-cert, finished-are, valid, found-at, taken-at}
+use Rattle.bl_command_line.proofs.Texts.{all, third, files_of, files-values, mps-texts, aux-texts, given-texts}
+use Rattle.bl_command_line.proofs.Texts.{cert-texts}
+use Rattle.bl_command_line.proofs.Turns.{held_of, idle_at}
+use Rattle.bl_command_line.proofs.Walks.{AreNext, Arrives, arrives}
+
+-- the first values of clap's entries are what the words say
+pub record HasEntries (first : Text → Option Text) (said : Said) : Type 0 where
+  pub mps : first (codes "mps") ≡ Some said.mps
+  pub aux : first (codes "aux") ≡ Some said.aux
+  pub cert : first (codes "cert") ≡ said.cert
+  pub upper : IsNumber upper_limits (option_to_list (first (id_of DefaultUpper))) said.default_upper
+  pub nodes : IsNumber node_limits (option_to_list (first (id_of Nodes))) said.nodes
+  pub follower_nodes : IsNumber follower_limits (option_to_list (first (id_of FollowerNodes))) said.follower_nodes
 
 -- ---- the end of a walk
 
-cond-same : {X : Type 0} (b : Bool) (x : X) → cond b x x ≡ x
-cond-same true x = refl
-cond-same false x = refl
+-- clap takes the words, and holds these entries
+record IsRead (command : Command) (words : List Text) (entries : List Entry) : Type 0 where
+  pub taken : takes (model_app command) words ≡ true
+  pub found : matches_of (model_app command) words ≡ rows entries
 
-no-default : (found : List Row) (a : Rule) → a.defaults ≡ [] → with_default found a ≡ found
-no-default found a e =
-    ap (λ (ds : List Text). cond (has_row a.id found) found (default_rows a.id (reading_by a) ds found)) e
-    ∙ cond-same (has_row a.id found) found
-
--- no argument has a default value
-abbrev NoDefaults : List Rule → Type 0
-NoDefaults [] = Unit {0}
-NoDefaults (a ∷ more) = (a.defaults ≡ []) × NoDefaults more
-
-no-defaults : (as' : List Rule) (found : List Row) → NoDefaults as' → fold with_default found as' ≡ found
-no-defaults [] found n = refl
-no-defaults (a ∷ more) found n =
-    ap (λ (rs : List Row). fold with_default rs more) (no-default found a n.0) ∙ no-defaults more found n.1
-
-have-no_defaults : (command : Command) → NoDefaults (rules command)
-have-no_defaults Solve = (refl, (refl, (refl, (refl, (refl, tt)))))
-have-no_defaults Show = (refl, (refl, (refl, tt)))
-
-finished-are : (command : Command) (held : Held) (entries : List Entry) → Stands command held entries
-    → finished (rules command) held ≡ rows entries
-finished-are command held entries s =
-    ap (λ (h : Held). fold with_default h.rows (rules command)) s.settles
-    ∙ no-defaults (rules command) (rows entries) (have-no_defaults command)
-
-given-both : (command : Command) (found : List Row) → is_given (codes "mps") found ≡ true
-    → is_given (codes "aux") found ≡ true → is_valid (shape command) found false ≡ true
-given-both Solve found m a = and-both _ _ m (and-both _ _ a refl)
-given-both Show found m a = and-both _ _ m (and-both _ _ a refl)
-
--- ---- a command whose words walk to an end where nothing is missing
-
--- whether a parse passes that ends its walk so
-abbrev passes_at : Command → List Text → Walk → Bool
-passes_at command words end =
-    entered_passes (built (model_app command)) end.stopped
-    && (walk_passes (shape command) [] (walk_from nothing_held) words
-    && (settle_passes (rules command) (shape command).args_override_self end.held
-    && (list_all default_passes (rules command)
-    && is_valid (shape command) (finished (rules command) end.held)
-    (is_some (entered (built (model_app command)) end.stopped)))))
-
-takes-at : (command : Command) (first : Text) (words : List Text)
-    → takes (model_app command) (first ∷ words)
-    ≡ passes_at command words (fold (walked (rules command) []) (walk_from nothing_held) words)
-unfolding clap_on_literals
-takes-at Solve first words = refl
-takes-at Show first words = refl
-
-found-at : (command : Command) (first : Text) (words : List Text)
-    → matches_of (model_app command) (first ∷ words)
-    ≡ finished (rules command) (fold (walked (rules command) []) (walk_from nothing_held) words).held
-found-at Solve first words = refl
-found-at Show first words = refl
-
-passes-whole : (command : Command) (words : List Text) (held : Held) (position : ℕ)
-    → walk_passes (shape command) [] (walk_from nothing_held) words ≡ true
-    → settle_passes (rules command) false held ≡ true
-    → is_valid (shape command) (finished (rules command) held) false ≡ true
-    → passes_at command words (idle_at held position) ≡ true
-unfolding clap_on_literals
-passes-whole Solve words held position w s v =
-    and-both _ _ refl (and-both _ _ w (and-both _ _ s (and-both _ _ refl v)))
-passes-whole Show words held position w s v =
-    and-both _ _ refl (and-both _ _ w (and-both _ _ s (and-both _ _ refl v)))
-
--- clap takes the words, and has these files and the texts of each option
-record IsRead (command : Command) (words : List Text) (mps aux : Text) (items : List Item) : Type 0 where
-  taken : takes (model_app command) words ≡ true
-  has_mps : first_of (codes "mps") (matches_of (model_app command) words) ≡ Some mps
-  has_aux : first_of (codes "aux") (matches_of (model_app command) words) ≡ Some aux
-  has_option : (choice : Choice)
-      → texts_of (Some choice) items
-      ≡ option_to_list (first_of (id_of choice) (matches_of (model_app command) words))
-
-read-by : (command : Command) (first : Text) (words : List Text) (mps aux : Text) (items : List Item)
-    (once : (choice : Choice) → IsOnce (texts_of (Some choice) items))
-    → Arrives command mps aux (λ choice. texts_of (Some choice) items) once (idle_at (held_of []) 1) words
-    → IsRead command (first ∷ words) mps aux items
-read-by command first words mps aux items once a =
-    let finish = finished-are command a.held a.entries a.stands in
-    let found = found-at command first words
-    ∙ ap (λ (w : Walk). finished (rules command) w.held) a.walks.ends ∙ finish in
-    let valid = ap (λ (rs : List Row). is_valid (shape command) rs false) finish
-    ∙ given-both command (rows a.entries) (is-given (codes "mps") a.entries mps a.has_mps)
-    (is-given (codes "aux") a.entries aux a.has_aux) in
+read-at_end : (command : Command) (first : Text) (words : List Text) (cert : Option Text) (entries : List Entry)
+    (once : (choice : Choice) → IsOnce (texts_named (id_of choice) entries)) → HasCert command cert
+    → is_some (value_of (codes "mps") entries) ≡ true → is_some (value_of (codes "aux") entries) ≡ true
+    → value_of (codes "cert") entries ≡ cert → Arrives command entries once (idle_at (held_of []) 1) words
+    → IsRead command (first ∷ words) entries
+read-at_end command first words cert entries once has m a c there =
+    let finish = finished-are command there.held entries there.stands in
     record {
-      taken = takes-at command first words ∙ ap (passes_at command words) a.walks.ends
-          ∙ passes-whole command words a.held 3 a.walks.passes a.stands.passes valid;
-      has_mps = ap (first_of (codes "mps")) found ∙ first-is (codes "mps") a.entries ∙ a.has_mps;
-      has_aux = ap (first_of (codes "aux")) found ∙ first-is (codes "aux") a.entries ∙ a.has_aux;
-      has_option = λ choice. sym (ap (λ (o : Option Text). option_to_list o)
-          (ap (first_of (id_of choice)) found ∙ first-is (id_of choice) a.entries) ∙ a.has_options choice);
+      taken = taken-at command first words there.held there.position there.walks.ends there.walks.passes
+          there.stands.passes
+          (ap (λ (rs : List Row). is_valid (shape command) rs false) finish
+          ∙ valid command cert (rows entries) has (given-is (codes "mps") entries ∙ m)
+          (given-is (codes "aux") entries ∙ a)
+          (given-is (codes "cert") entries ∙ ap (λ (o : Option Text). is_some o) c));
+      found = found-at command first words
+          ∙ ap (λ (w : Walk). finished (shape command).rules w.held) there.walks.ends ∙ finish;
     }
 
--- ---- the entries
+-- ---- words that are a command's
 
--- clap takes the words, and has these files and these numbers
-pub record HasEntries (command : Command) (words : List Text) (mps aux : Text) (upper : ℤ)
-    (nodes follower_nodes : ℕ) : Type 0 where
-  pub taken : takes (model_app command) words ≡ true
-  pub has_mps : first_of (codes "mps") (matches_of (model_app command) words) ≡ Some mps
-  pub has_aux : first_of (codes "aux") (matches_of (model_app command) words) ≡ Some aux
-  pub has_upper : IsNumber DefaultUpper
-      (option_to_list (first_of (id_of DefaultUpper) (matches_of (model_app command) words))) upper
-  pub has_nodes : IsNumber Nodes
-      (option_to_list (first_of (id_of Nodes) (matches_of (model_app command) words))) (pos nodes)
-  pub has_follower_nodes : IsNumber FollowerNodes
-      (option_to_list (first_of (id_of FollowerNodes) (matches_of (model_app command) words))) (pos follower_nodes)
+number-once : (limits : Limits) (texts : List Text) (value : ℕ) → IsNumber limits texts value → IsOnce texts
+number-once limits [] value h = tt
+number-once limits (text ∷ []) value h = tt
+number-once limits (text ∷ other ∷ texts) value h = absurd h
 
-number-once : (choice : Choice) (texts : List Text) (value : ℤ) → IsNumber choice texts value → IsOnce texts
-number-once choice [] value h = tt
-number-once choice (text ∷ []) value h = tt
-number-once choice (text ∷ other ∷ texts) value h = absurd h
+third-next : (command : Command) (cert : Option Text) (entries : List Entry)
+    (once : (choice : Choice) → IsOnce (texts_named (id_of choice) entries))
+    → AreNext command entries once 3 (third command cert)
+third-next Solve cert entries once = tt
+third-next Show cert entries once = tt
+third-next Check None entries once = tt
+third-next Check (Some cert) entries once = (has-cert, once Cert, tt)
 
-each-once : (items : List Item) (mps aux : Text) (upper : ℤ) (nodes follower_nodes : ℕ)
-    → AreModelItems items mps aux upper nodes follower_nodes → (choice : Choice) → IsOnce (texts_of (Some choice) items)
-each-once items mps aux upper nodes follower_nodes h DefaultUpper = number-once DefaultUpper _ upper h.default_upper
-each-once items mps aux upper nodes follower_nodes h Nodes = number-once Nodes _ (pos nodes) h.node_budget
-each-once items mps aux upper nodes follower_nodes h FollowerNodes =
-    number-once FollowerNodes _ (pos follower_nodes) h.follower_budget
+module _ (command : Command) (items : List Item) (said : Said) (says : AreModelItems command items said) where
+  abbrev files : List Entry
+  files = files_of command said.mps said.aux said.cert
 
-of-items : (command : Command) (words : List Text) (mps aux : Text) (upper : ℤ) (nodes follower_nodes : ℕ)
-    (items : List Item) → AreModelItems items mps aux upper nodes follower_nodes → IsRead command words mps aux items
-    → HasEntries command words mps aux upper nodes follower_nodes
-of-items command words mps aux upper nodes follower_nodes items said r = record {
-  taken = r.taken;
-  has_mps = r.has_mps;
-  has_aux = r.has_aux;
-  has_upper = subst (λ (texts : List Text). IsNumber DefaultUpper texts upper) (r.has_option DefaultUpper)
-      said.default_upper;
-  has_nodes = subst (λ (texts : List Text). IsNumber Nodes texts (pos nodes)) (r.has_option Nodes) said.node_budget;
-  has_follower_nodes = subst (λ (texts : List Text). IsNumber FollowerNodes texts (pos follower_nodes))
-      (r.has_option FollowerNodes) said.follower_budget;
-}
+  abbrev entries : List Entry
+  entries = all command items said.mps said.aux said.cert
 
-pub entries-found : (command : Command) (words : List Text) (mps aux : Text) (upper : ℤ) (nodes follower_nodes : ℕ)
-    → AreModelWords command words mps aux upper nodes follower_nodes
-    → HasEntries command words mps aux upper nodes follower_nodes
-entries-found command words mps aux upper nodes follower_nodes w =
-    let once = each-once w.items mps aux upper nodes follower_nodes w.said in
-    let there = arrives command mps aux (λ choice. texts_of (Some choice) w.items) once w.items w.rest w.spelled
-    w.said.files.files (λ choice. refl) in
-    of-items command words mps aux upper nodes follower_nodes w.items w.said
-    (subst (λ (ws : List Text). IsRead command ws mps aux w.items) (sym w.begins)
-    (read-by command (name_of command) w.rest mps aux w.items once there))
+  mps-is : texts_named (codes "mps") entries ≡ said.mps ∷ []
+  mps-is = mps-texts command items said.mps said.aux said.cert
 
-pub simple : (command : Command) → is_simple (model_app command) ≡ true
-unfolding clap_on_literals
-simple Solve = refl
-simple Show = refl
+  aux-is : texts_named (codes "aux") entries ≡ said.aux ∷ []
+  aux-is = aux-texts command items said.mps said.aux said.cert
+
+  cert-is : texts_named (codes "cert") entries ≡ option_to_list said.cert
+  cert-is = cert-texts command items said.mps said.aux said.cert says.files
+
+  upper-is : texts_named (id_of DefaultUpper) entries ≡ texts_of (Some DefaultUpper) items
+  upper-is = given-texts command items said.mps said.aux said.cert DefaultUpper refl
+
+  nodes-are : texts_named (id_of Nodes) entries ≡ texts_of (Some Nodes) items
+  nodes-are = given-texts command items said.mps said.aux said.cert Nodes refl
+
+  follower_nodes-are : texts_named (id_of FollowerNodes) entries ≡ texts_of (Some FollowerNodes) items
+  follower_nodes-are = given-texts command items said.mps said.aux said.cert FollowerNodes refl
+
+  -- each name is given once
+  once-by : (id : Text) (texts : List Text) → texts_named id entries ≡ texts → IsOnce texts
+      → IsOnce (texts_named id entries)
+  once-by id texts e once = subst (λ (ts : List Text). IsOnce ts) (sym e) once
+
+  each-once : (choice : Choice) → IsOnce (texts_named (id_of choice) entries)
+  each-once DefaultUpper = once-by _ _ upper-is (number-once upper_limits _ said.default_upper says.default_upper)
+  each-once Nodes = once-by _ _ nodes-are (number-once node_limits _ said.nodes says.node_budget)
+  each-once FollowerNodes =
+      once-by _ _ follower_nodes-are (number-once follower_limits _ said.follower_nodes says.follower_budget)
+  each-once Cert = once-by _ _ cert-is (once-one said.cert)
+
+  arrives-there : (words : List Text) → AreSpelled command items words
+      → Arrives command entries each-once (idle_at (held_of []) 1) words
+  arrives-there words spelled =
+      arrives command entries each-once items words files spelled (
+        has-mps command,
+        once-by _ _ mps-is tt,
+        (has-aux command, once-by _ _ aux-is tt, third-next command said.cert entries each-once),
+      )
+      (says.files.files ∙ files-values command said.mps said.aux said.cert) refl
+
+  value-by : (id : Text) (texts : List Text) → texts_named id entries ≡ texts → value_of id entries ≡ slice_get texts 0
+  value-by id texts e = ap (λ (ts : List Text). slice_get ts 0) e
+
+  items-read : (first : Text) (words : List Text) → AreSpelled command items words
+      → IsRead command (first ∷ words) entries
+  items-read first words spelled =
+      read-at_end command first words said.cert entries each-once says.files.has
+      (ap (λ (o : Option Text). is_some o) (value-by _ _ mps-is))
+      (ap (λ (o : Option Text). is_some o) (value-by _ _ aux-is)) (value-by _ _ cert-is ∙ first-one said.cert)
+      (arrives-there words spelled)
+
+  number-by : (found : Option Text) (limits : Limits) (id : Text) (texts : List Text) (value : ℕ)
+      → found ≡ value_of id entries → texts_named id entries ≡ texts → IsNumber limits texts value
+      → IsNumber limits (option_to_list found) value
+  number-by found limits id texts value f e h =
+      subst (λ (ts : List Text). IsNumber limits ts value)
+      (sym (ap (λ (o : Option Text). option_to_list o) (f ∙ value-by id texts e)
+      ∙ once-first texts (number-once limits texts value h))) h
+
+  items-found : (first : Text → Option Text) → ((id : Text) → first id ≡ value_of id entries) → HasEntries first said
+  items-found first f = record {
+    mps = f (codes "mps") ∙ value-by _ _ mps-is;
+    aux = f (codes "aux") ∙ value-by _ _ aux-is;
+    cert = f (codes "cert") ∙ value-by _ _ cert-is ∙ first-one said.cert;
+    upper = number-by _ upper_limits (id_of DefaultUpper) _ said.default_upper (f (id_of DefaultUpper)) upper-is
+        says.default_upper;
+    nodes = number-by _ node_limits (id_of Nodes) _ said.nodes (f (id_of Nodes)) nodes-are says.node_budget;
+    follower_nodes = number-by _ follower_limits (id_of FollowerNodes) _ said.follower_nodes (f (id_of FollowerNodes))
+        follower_nodes-are says.follower_budget;
+  }
+
+words-read : (command : Command) (words : List Text) (said : Said) (w : AreModelWords command words said)
+    → IsRead command words (entries command w.items said w.says)
+words-read command words said w =
+    subst (λ (ws : List Text). IsRead command ws (entries command w.items said w.says)) (sym w.begins)
+    (items-read command w.items said w.says (name_of command) w.rest w.spelled)
+
+pub words-taken : (command : Command) (words : List Text) (said : Said) → AreModelWords command words said
+    → takes (model_app command) words ≡ true
+words-taken command words said w = (words-read command words said w).taken
+
+pub words-found : (command : Command) (words : List Text) (said : Said) → AreModelWords command words said
+    → (first : Text → Option Text) → ((id : Text) → first id ≡ first_of id (matches_of (model_app command) words))
+    → HasEntries first said
+words-found command words said w first f =
+    let es = entries command w.items said w.says in
+    items-found command w.items said w.says first
+    (λ id. f id ∙ ap (first_of id) (words-read command words said w).found ∙ first-is id es)

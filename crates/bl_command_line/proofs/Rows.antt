@@ -1,10 +1,12 @@
 -- The rows that clap holds, as entries of one value each.
 use Rattle.std.proofs.Common.{◌≡◌, ℕ, Bool, true, false, cond, List, [], ◌∷◌, ◌++◌, map, Option, Some, None, refl, sym}
-use Rattle.std.proofs.Common.{ap, ◌∙◌, ◌||◌, is_some, find}
+use Rattle.std.proofs.Common.{ap, subst, ◌∙◌, ◌||◌, is_some, find}
 use Rattle.std.specs.Prelude.{option_and_then, slice_get}
-use Rattle.std.specs.Option.{option_map_or}
+use Rattle.std.specs.List.{flat_map}
+use Rattle.std.specs.Option.{option_map_or, option_to_list}
 use Rattle.std.specs.Str.{bytes_eq}
 use Rattle.std.proofs.lemmas.List.{append-nil, map-append}
+use Rattle.std.proofs.lemmas.List.Concat.{flat_map-append}
 use Rattle.std.proofs.lemmas.Slice.Eq.{bytes_eq-Decides}
 use Rattle.clap.specs.Facts.{explicit_source}
 use Rattle.clap.specs.Takes.{is_given}
@@ -31,52 +33,92 @@ row e = record {
 abbrev pub rows : List Entry → List Row
 rows entries = map row entries
 
--- the value of the first entry of this name
-abbrev pub value_of : Text → List Entry → Option Text
-value_of id [] = None
-value_of id (e ∷ entries) = cond (bytes_eq e.0 id) (Some e.1) (value_of id entries)
+abbrev pub one_if : Bool → Text → List Text
+one_if b text = cond b (text ∷ []) []
 
-first-step : (b : Bool) (e : Entry) (more : Option Row)
+abbrev pub named : Text → Entry → List Text
+named id e = one_if (bytes_eq e.0 id) e.1
+
+-- the values of the entries of this name
+abbrev pub texts_named : Text → List Entry → List Text
+texts_named id entries = flat_map (named id) entries
+
+-- the first of them
+abbrev pub value_of : Text → List Entry → Option Text
+value_of id entries = slice_get (texts_named id entries) 0
+
+first-step : (b : Bool) (e : Entry) (more : Option Row) (texts : List Text)
+    → option_and_then (λ (r : Row). slice_get r.values 0) more ≡ slice_get texts 0
     → option_and_then (λ (r : Row). slice_get r.values 0) (cond b (Some (row e)) more)
-    ≡ cond b (Some e.1) (option_and_then (λ (r : Row). slice_get r.values 0) more)
-first-step true e more = refl
-first-step false e more = refl
+    ≡ slice_get (one_if b e.1 ++ texts) 0
+first-step true e more texts h = refl
+first-step false e more texts h = h
 
 pub first-is : (id : Text) (entries : List Entry) → first_of id (rows entries) ≡ value_of id entries
 first-is id [] = refl
 first-is id (e ∷ entries) =
-    first-step (bytes_eq e.0 id) e (find (λ (r : Row). bytes_eq r.id id) (rows entries))
-    ∙ ap (λ (m : Option Text). cond (bytes_eq e.0 id) (Some e.1) m) (first-is id entries)
+    first-step (bytes_eq e.0 id) e (find (λ (r : Row). bytes_eq r.id id) (rows entries)) (texts_named id entries)
+    (first-is id entries)
 
-has-step : (b : Bool) (t : Text) (m : Option Text) → (b || is_some m) ≡ is_some (cond b (Some t) m)
-has-step true t m = refl
-has-step false t m = refl
+has-step : (b has : Bool) (text : Text) (texts : List Text) → has ≡ is_some (slice_get texts 0)
+    → (b || has) ≡ is_some (slice_get (one_if b text ++ texts) 0)
+has-step true has text texts h = refl
+has-step false has text texts h = h
 
-pub has-is : (id : Text) (entries : List Entry) → has_row id (rows entries) ≡ is_some (value_of id entries)
+has-is : (id : Text) (entries : List Entry) → has_row id (rows entries) ≡ is_some (value_of id entries)
 has-is id [] = refl
 has-is id (e ∷ entries) =
-    ap (λ (b : Bool). bytes_eq e.0 id || b) (has-is id entries)
-    ∙ has-step (bytes_eq e.0 id) e.1 (value_of id entries)
+    has-step (bytes_eq e.0 id) (has_row id (rows entries)) e.1 (texts_named id entries) (has-is id entries)
 
-given-step : (b : Bool) (e : Entry) (more : Option Row) (m : Option Text)
-    → option_map_or (λ (r : Row). explicit_source r.source) more false ≡ is_some m
+given-step : (b : Bool) (e : Entry) (more : Option Row) (texts : List Text)
+    → option_map_or (λ (r : Row). explicit_source r.source) more false ≡ is_some (slice_get texts 0)
     → option_map_or (λ (r : Row). explicit_source r.source) (cond b (Some (row e)) more) false
-    ≡ is_some (cond b (Some e.1) m)
-given-step true e more m h = refl
-given-step false e more m h = h
+    ≡ is_some (slice_get (one_if b e.1 ++ texts) 0)
+given-step true e more texts h = refl
+given-step false e more texts h = h
 
 pub given-is : (id : Text) (entries : List Entry) → is_given id (rows entries) ≡ is_some (value_of id entries)
 given-is id [] = refl
 given-is id (e ∷ entries) =
-    given-step (bytes_eq e.0 id) e (find (λ (r : Row). bytes_eq r.id id) (rows entries)) (value_of id entries)
+    given-step (bytes_eq e.0 id) e (find (λ (r : Row). bytes_eq r.id id) (rows entries)) (texts_named id entries)
     (given-is id entries)
 
-pub no-row : (id : Text) (entries : List Entry) → value_of id entries ≡ None → has_row id (rows entries) ≡ false
-no-row id entries none = has-is id entries ∙ ap (λ (o : Option Text). is_some o) none
+-- ---- names that are given once
 
-pub is-given : (id : Text) (entries : List Entry) (t : Text) → value_of id entries ≡ Some t
-    → is_given id (rows entries) ≡ true
-is-given id entries t e = given-is id entries ∙ ap (λ (o : Option Text). is_some o) e
+-- the texts are one at most
+abbrev pub IsOnce : List Text → Type 0
+IsOnce [] = Unit {0}
+IsOnce (text ∷ []) = Unit {0}
+IsOnce (text ∷ other ∷ texts) = ⊥
+
+none-before : (texts : List Text) (text : Text) (rest : List Text) → IsOnce (texts ++ text ∷ rest) → texts ≡ []
+none-before [] text rest once = refl
+none-before (x ∷ []) text rest once = absurd once
+none-before (x ∷ y ∷ texts) text rest once = absurd once
+
+-- an argument whose name is given once has no row before its entry
+pub fresh : (before rest : List Entry) (id text : Text) → IsOnce (texts_named id (before ++ (id, text) ∷ rest))
+    → has_row id (rows before) ≡ false
+fresh before rest id text once =
+    let own = (bytes_eq-Decides id id).1 refl in
+    let split = flat_map-append (named id) before ((id, text) ∷ rest)
+    ∙ ap (λ (b : Bool). texts_named id before ++ (one_if b text ++ texts_named id rest)) own in
+    has-is id before
+    ∙ ap (λ (texts : List Text). is_some (slice_get texts 0))
+    (none-before (texts_named id before) text (texts_named id rest) (subst (λ (ts : List Text). IsOnce ts) split once))
+
+pub once-one : (text : Option Text) → IsOnce (option_to_list text)
+once-one None = tt
+once-one (Some text) = tt
+
+pub first-one : (text : Option Text) → slice_get (option_to_list text) 0 ≡ text
+first-one None = refl
+first-one (Some text) = refl
+
+pub once-first : (texts : List Text) → IsOnce texts → option_to_list (slice_get texts 0) ≡ texts
+once-first [] once = refl
+once-first (text ∷ []) once = refl
+once-first (text ∷ other ∷ texts) once = absurd once
 
 -- ---- one more entry
 
@@ -103,40 +145,3 @@ adds-row id text entries none =
     (absent id (λ (r : Row). []) [] (rows entries) none ∙ append-nil (rows entries))
     ∙ absent id (more_values CommandLine (text ∷ [])) (row (id, text) ∷ []) (rows entries) none
     ∙ sym (map-append row entries ((id, text) ∷ []))
-
-abbrev or_else : Option Text → Option Text → Option Text
-or_else (Some t) other = Some t
-or_else None other = other
-
-or-none : (o : Option Text) → or_else o None ≡ o
-or-none (Some t) = refl
-or-none None = refl
-
-append-step : (b : Bool) (t : Text) (m other : Option Text)
-    → cond b (Some t) (or_else m other) ≡ or_else (cond b (Some t) m) other
-append-step true t m other = refl
-append-step false t m other = refl
-
-value-with : (id other text : Text) (entries : List Entry)
-    → value_of id (with entries other text)
-    ≡ or_else (value_of id entries) (cond (bytes_eq other id) (Some text) None)
-value-with id other text [] = refl
-value-with id other text (e ∷ entries) =
-    ap (λ (o : Option Text). cond (bytes_eq e.0 id) (Some e.1) o) (value-with id other text entries)
-    ∙ append-step (bytes_eq e.0 id) e.1 (value_of id entries) (cond (bytes_eq other id) (Some text) None)
-
--- the entry is its argument's value where it has none yet
-pub value-new : (id text : Text) (entries : List Entry) → value_of id entries ≡ None
-    → value_of id (with entries id text) ≡ Some text
-value-new id text entries none =
-    value-with id id text entries
-    ∙ ap (λ (o : Option Text). or_else o (cond (bytes_eq id id) (Some text) None)) none
-    ∙ ap (λ (b : Bool). cond b (Some text) None) ((bytes_eq-Decides id id).1 refl)
-
--- and it changes no other argument's
-pub value-kept : (id other text : Text) (entries : List Entry) → bytes_eq other id ≡ false
-    → value_of id (with entries other text) ≡ value_of id entries
-value-kept id other text entries apart =
-    value-with id other text entries
-    ∙ ap (λ (b : Bool). or_else (value_of id entries) (cond b (Some text) None)) apart
-    ∙ or-none (value_of id entries)

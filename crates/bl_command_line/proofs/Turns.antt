@@ -1,98 +1,87 @@
--- What clap makes of one word, or of an option and its value.
-use Rattle.std.proofs.Common.{◌≡◌, ℕ, Bool, true, false, cond, eqb, List, [], ◌∷◌, ◌++◌, Some, None, refl}
-use Rattle.std.proofs.Common.{ap, ap₂, ◌∙◌, codes, not, ◌&&◌, ◌||◌, fold}
+-- What clap makes of one word, or of an option and its value, in a command of this shape.
+use Rattle.std.proofs.Common.{◌≡◌, ℕ, ◌+◌, min, Bool, true, false, cond, eqb, List, [], ◌∷◌, ◌++◌, Option, Some, None}
+use Rattle.std.proofs.Common.{refl, sym, ap, subst, ◌∙◌, not, ◌&&◌, ◌||◌, fold}
+use Rattle.std.specs.Prelude.{nat_lt}
+use Rattle.std.specs.Option.{option_map_or}
 use Rattle.std.specs.Str.{bytes_eq}
-use Rattle.clap.specs.Lexer.{long_of, short_of}
-use Rattle.clap.specs.Walk.{Walk, Held, Row, Rule, idle, option, value, walked, settled, to_positional, arg_by_index}
-use Rattle.clap.specs.Walk.{arg_by_id, option_word, has_row, with_values, without, pushed}
+use Rattle.std.proofs.lemmas.Slice.Eq.{bytes_eq-Decides}
+use Rattle.clap.specs.Lexer.{long_of, short_of, usize_max}
+use Rattle.clap.specs.Walk.{Walk, Held, Step, Row, Rule, idle, option, value, walked, settled, to_positional}
+use Rattle.clap.specs.Walk.{arg_by_index, arg_by_id, arg_by_long, option_word, long_met, after_flag, after_step}
+use Rattle.clap.specs.Walk.{has_row, with_values, without, pushed, used_by_id}
 use Rattle.clap.specs.declared.parser.matches.ValueSource.TheVariants.{CommandLine}
+use Rattle.clap.specs.declared.builder.action.ArgAction.TheVariants.{Set}
 use Rattle.clap.specs.declared.builder.value_parser.Reading.TheVariants.{AsWritten}
+use Rattle.clap.specs.declared.builder.value_parser.ValueParser.TheVariants as vp
 use Rattle.clap.proofs.OnLiterals.{clap_on_literals}
-use Rattle.clap.specs.Takes.{turn_passes, step_passes, walk_passes, settle_passes}
-use Rattle.clap.specs.Simple.{Shape, built}
-use Rattle.bl_words.specs.declared.commands.Command.{Command}
-use Rattle.bl_words.specs.declared.commands.Command.TheVariants.{Solve, Show}
+use Rattle.clap.specs.Takes.{turn_passes, step_passes, walk_passes, settle_passes, use_passes, long_passes}
+use Rattle.clap.specs.Takes.{option_passes, positional_passes}
+use Rattle.clap.specs.Simple.{Shape, new_rule}
 use Rattle.bl_words.specs.declared.commands.Choice.{Choice}
-use Rattle.bl_words.specs.declared.commands.Choice.TheVariants.{DefaultUpper, Nodes, FollowerNodes}
-use Rattle.bl_words.specs.Commands.{word_of, takes, is_plain}
-use Rattle.bl_command_line.specs.Apps.{id_of, model_app}
+use Rattle.bl_words.specs.declared.commands.Choice.TheVariants.{DefaultUpper}
+use Rattle.bl_words.specs.Commands.{word_of, is_plain}
+use Rattle.bl_command_line.specs.Apps.{id_of}
 use Rattle.bl_command_line.proofs.Rows.{Text, Entry, rows, with, adds-row}
-
--- the shape of the command as clap builds it, and its arguments
-abbrev pub shape : Command → Shape
-shape command = (built (model_app command)).top
-
-abbrev pub rules : Command → List Rule
-rules command = (shape command).rules
 
 pub and-both : (a b : Bool) → a ≡ true → b ≡ true → (a && b) ≡ true
 and-both true b e f = f
 and-both false b e f = absurd cc
 
+-- ---- arguments
+
+-- an argument that has one value, as clap builds it
+abbrev pub argument : Text → Option Text → Option ℕ → Bool → Rule
+argument id long index required = record (new_rule id) {
+  long = long;
+  index = index;
+  action = Some Set;
+  range = Some (record { start_inclusive = 1; end_inclusive = 1 });
+  parser = Some vp.String;
+  required = required;
+}
+
+abbrev file_argument : Text → ℕ → Rule
+file_argument id position = argument id None (Some position) true
+
+abbrev option_argument : Text → Rule
+option_argument id = argument id (Some id) None false
+
+-- the command has this file as its positional of this number
+pub record HasFile (s : Shape) (id : Text) (position : ℕ) : Type 0 where
+  pub by_id : arg_by_id s.rules id ≡ Some (file_argument id position)
+  pub by_index : arg_by_index s.rules position ≡ Some (file_argument id position)
+
+-- the command has this option
+pub record HasOption (s : Shape) (id : Text) : Type 0 where
+  pub by_id : arg_by_id s.rules id ≡ Some (option_argument id)
+  pub by_long : arg_by_long s.rules id ≡ Some (option_argument id)
+
 -- ---- what is held
 
+abbrev held_with : List Row → Held
+held_with rs = record { rows = rs; pending = None; skip = 0 }
+
 abbrev pub held_of : List Entry → Held
-held_of entries = record { rows = rows entries; pending = None; skip = 0 }
+held_of entries = held_with (rows entries)
 
 -- an argument with its value waits to be settled
 abbrev pub pending_of : List Entry → Text → Text → Held
 pending_of entries id text = record { rows = rows entries; pending = Some (id, text ∷ []); skip = 0 }
 
 -- an option waits for its value
-abbrev waiting_of : List Entry → Text → Held
-waiting_of entries id = record { rows = rows entries; pending = Some (id, []); skip = 0 }
+abbrev opened : Text → Held → Held
+opened id held = record held { pending = Some (id, []) }
 
-abbrev with_rows : Held → List Row → Held
-with_rows held rows = record held { rows = rows; pending = None }
-
--- what is held comes to these entries, and clap takes it
-pub record Stands (command : Command) (held : Held) (entries : List Entry) : Type 0 where
-  pub settles : settled (rules command) held ≡ held_of entries
-  pub passes : settle_passes (rules command) false held ≡ true
-
--- the first use of an argument
+-- an argument is used with its value
 abbrev use_row : Text → Text → List Row → List Row
 use_row id text rs = with_values id AsWritten CommandLine (text ∷ []) (without id rs)
 
-use-stands : (command : Command) (held : Held) (entries : List Entry) (id text : Text)
-    → has_row id (rows entries) ≡ false
-    → settled (rules command) held ≡ with_rows (held_of entries) (use_row id text (rows entries))
-    → settle_passes (rules command) false held ≡ not (has_row id (rows entries))
-    → Stands command held (with entries id text)
-use-stands command held entries id text none s p = record {
-  settles = s ∙ ap (λ (rs : List Row). with_rows (held_of entries) rs) (adds-row id text entries none);
-  passes = p ∙ ap not none;
-}
+abbrev used_in : Text → Text → Held → Held
+used_in id text held = record held { rows = use_row id text held.rows; pending = None }
 
-not-again : (b : Bool) → ((not b || false) && true) ≡ not b
-not-again true = refl
-not-again false = refl
-
-pub mps-stands : (command : Command) (entries : List Entry) (text : Text) → has_row (codes "mps") (rows entries) ≡ false
-    → Stands command (pending_of entries (codes "mps") text) (with entries (codes "mps") text)
-mps-stands Solve entries text none = use-stands Solve _ entries (codes "mps") text none refl (not-again _)
-mps-stands Show entries text none = use-stands Show _ entries (codes "mps") text none refl (not-again _)
-
-pub aux-stands : (command : Command) (entries : List Entry) (text : Text) → has_row (codes "aux") (rows entries) ≡ false
-    → Stands command (pending_of entries (codes "aux") text) (with entries (codes "aux") text)
-aux-stands Solve entries text none = use-stands Solve _ entries (codes "aux") text none refl (not-again _)
-aux-stands Show entries text none = use-stands Show _ entries (codes "aux") text none refl (not-again _)
-
-pub option-stands : (command : Command) (choice : Choice) → takes command choice ≡ true → (entries : List Entry)
-    (text : Text) → has_row (id_of choice) (rows entries) ≡ false
-    → Stands command (pending_of entries (id_of choice) text) (with entries (id_of choice) text)
-option-stands Solve DefaultUpper t entries text none =
-    use-stands Solve _ entries (id_of DefaultUpper) text none refl (not-again _)
-option-stands Solve Nodes t entries text none = use-stands Solve _ entries (id_of Nodes) text none refl (not-again _)
-option-stands Solve FollowerNodes t entries text none =
-    use-stands Solve _ entries (id_of FollowerNodes) text none refl (not-again _)
-option-stands Show DefaultUpper t entries text none =
-    use-stands Show _ entries (id_of DefaultUpper) text none refl (not-again _)
-option-stands Show Nodes t entries text none = absurd cc
-option-stands Show FollowerNodes t entries text none = absurd cc
-
-pub held-stands : (command : Command) (entries : List Entry) → Stands command (held_of entries) entries
-held-stands command entries = record { settles = refl; passes = refl }
+first-passes : (has again : Bool) → has ≡ false → ((not has || again) && true) ≡ true
+first-passes true again none = absurd cc
+first-passes false again none = refl
 
 -- ---- walks
 
@@ -108,71 +97,13 @@ idle_at held position = record {
 
 -- a walk in which an option waits for its value
 abbrev waiting_at : Held → ℕ → Text → Walk
-waiting_at held position id = record {
-  held = held;
-  waiting = option id;
-  position = position;
-  is_trailing = false;
-  stopped = None;
-}
+waiting_at held position id = record (idle_at held position) { waiting = option id }
 
--- the walk over the words ends so, and clap takes each of them
-pub record Walks (command : Command) (from : Walk) (words : List Text) (end : Walk) : Type 0 where
-  pub ends : fold (walked (rules command) []) from words ≡ end
-  pub passes : walk_passes (shape command) [] from words ≡ true
-
-pub walks-none : (command : Command) (from : Walk) → Walks command from [] from
-unfolding walk_passes
-walks-none command from = record { ends = refl; passes = refl }
-
-walks-word : (command : Command) (from after : Walk) (word : Text) (words : List Text) (end : Walk)
-    → walked (rules command) [] from word ≡ after → turn_passes (shape command) [] from word ≡ true
-    → Walks command after words end → Walks command from (word ∷ words) end
-unfolding walk_passes
-walks-word command from after word words end e p more = record {
-  ends = ap (λ (w : Walk). fold (walked (rules command) []) w words) e ∙ more.ends;
-  passes = and-both _ _ p (ap (λ (w : Walk). walk_passes (shape command) [] w words) e ∙ more.passes);
-}
-
--- ---- a word that isn't an option's
+-- ---- words
 
 not-false : (b : Bool) → not b ≡ true → b ≡ false
 not-false true e = absurd cc
 not-false false e = refl
-
-not_dashes : (b : ℕ) (bs : Text) → eqb b 45 ≡ false → bytes_eq (b ∷ bs) (45 ∷ 45 ∷ []) ≡ false
-not_dashes b bs h = rw h refl
-
-not_long : (b : ℕ) (bs : Text) → eqb b 45 ≡ false → long_of (b ∷ bs) ≡ None
-not_long b bs h = rw h refl
-
-not_short : (b : ℕ) (bs : Text) → eqb b 45 ≡ false → short_of (b ∷ bs) ≡ None
-not_short b bs h = rw h refl
-
-file-walked : (rs : List Rule) (held : Held) (position : ℕ) (b : ℕ) (bs : Text) → eqb b 45 ≡ false
-    → walked rs [] (idle_at held position) (b ∷ bs)
-    ≡ to_positional rs (arg_by_index rs position) (b ∷ bs) (idle_at held position) held
-unfolding walked
-file-walked rs held position b bs h = rw (not_dashes b bs h, not_long b bs h, not_short b bs h) refl
-
-value-walked : (rs : List Rule) (held : Held) (position : ℕ) (id : Text) (b : ℕ) (bs : Text) → eqb b 45 ≡ false
-    → walked rs [] (waiting_at held position id) (b ∷ bs)
-    ≡ record (waiting_at held position id) {
-      held = (option_word (arg_by_id rs id) id (b ∷ bs) held).0;
-      waiting = (option_word (arg_by_id rs id) id (b ∷ bs) held).1;
-    }
-unfolding walked
-value-walked rs held position id b bs h = rw (not_dashes b bs h, not_long b bs h, not_short b bs h) refl
-
-file-passes : (s : Shape) (held : Held) (position : ℕ) (b : ℕ) (bs : Text) → eqb b 45 ≡ false
-    → turn_passes s [] (idle_at held position) (b ∷ bs) ≡ step_passes s position held value
-file-passes s held position b bs h = rw (not_dashes b bs h, not_long b bs h, not_short b bs h) refl
-
-value-passes : (s : Shape) (held : Held) (position : ℕ) (id : Text) (b : ℕ) (bs : Text) → eqb b 45 ≡ false
-    → turn_passes s [] (waiting_at held position id) (b ∷ bs) ≡ true
-value-passes s held position id b bs h = rw (not_dashes b bs h, not_long b bs h, not_short b bs h) refl
-
--- ---- files
 
 and-false : (b : Bool) → (b && false) ≡ false
 and-false true = refl
@@ -182,174 +113,214 @@ or-right : (a b : Bool) → b ≡ true → (a || b) ≡ true
 or-right true b e = refl
 or-right false b e = e
 
--- what is held at a file's word
-abbrev filed : List Rule → Bool → Text → Text → Held → Held
-filed rs again id text held = pushed id text (cond again held (settled rs held))
+-- a word that isn't an option's
+not_dashes : (b : ℕ) (bs : Text) → eqb b 45 ≡ false → bytes_eq (b ∷ bs) (45 ∷ 45 ∷ []) ≡ false
+not_dashes b bs h = rw h refl
 
-filed-is : (command : Command) (b : Bool) (id text : Text) (held : Held) (entries : List Entry)
-    → Stands command held entries → filed (rules command) (b && false) id text held ≡ pending_of entries id text
-filed-is command b id text held entries s =
-    ap (λ (again : Bool). filed (rules command) again id text held) (and-false b)
-    ∙ ap (pushed id text) s.settles
+not_long : (b : ℕ) (bs : Text) → eqb b 45 ≡ false → long_of (b ∷ bs) ≡ None
+not_long b bs h = rw h refl
 
-mps-walked : (command : Command) (text : Text) (held : Held) (entries : List Entry) → Stands command held entries
-    → to_positional (rules command) (arg_by_index (rules command) 1) text (idle_at held 1) held
-    ≡ idle_at (pending_of entries (codes "mps") text) 2
-mps-walked Solve text held entries s =
-    ap (λ (h : Held). idle_at h 2) (filed-is Solve _ (codes "mps") text held entries s)
-mps-walked Show text held entries s =
-    ap (λ (h : Held). idle_at h 2) (filed-is Show _ (codes "mps") text held entries s)
+not_short : (b : ℕ) (bs : Text) → eqb b 45 ≡ false → short_of (b ∷ bs) ≡ None
+not_short b bs h = rw h refl
 
-aux-walked : (command : Command) (text : Text) (held : Held) (entries : List Entry) → Stands command held entries
-    → to_positional (rules command) (arg_by_index (rules command) 2) text (idle_at held 2) held
-    ≡ idle_at (pending_of entries (codes "aux") text) 3
-aux-walked Solve text held entries s =
-    ap (λ (h : Held). idle_at h 3) (filed-is Solve _ (codes "aux") text held entries s)
-aux-walked Show text held entries s =
-    ap (λ (h : Held). idle_at h 3) (filed-is Show _ (codes "aux") text held entries s)
+-- an option's word, with the value where it is joined
+record IsLong (word id : Text) (joined : Option Text) : Type 0 where
+  dashes : bytes_eq word (45 ∷ 45 ∷ []) ≡ false
+  long : long_of word ≡ Some (id, joined)
 
-mps-passes : (command : Command) (held : Held) (entries : List Entry) → Stands command held entries
-    → step_passes (shape command) 1 held value ≡ true
-mps-passes Solve held entries s = or-right _ _ s.passes
-mps-passes Show held entries s = or-right _ _ s.passes
-
-aux-passes : (command : Command) (held : Held) (entries : List Entry) → Stands command held entries
-    → step_passes (shape command) 2 held value ≡ true
-aux-passes Solve held entries s = or-right _ _ s.passes
-aux-passes Show held entries s = or-right _ _ s.passes
-
-pub walks-mps : (command : Command) (held : Held) (entries : List Entry) (text : Text) (words : List Text) (end : Walk)
-    → is_plain text ≡ true → Stands command held entries
-    → Walks command (idle_at (pending_of entries (codes "mps") text) 2) words end
-    → Walks command (idle_at held 1) (text ∷ words) end
-walks-mps command held entries [] words end h s more = absurd cc
-walks-mps command held entries (b ∷ bs) words end h s more =
-    let plain = not-false (eqb b 45) h in
-    walks-word command _ _ (b ∷ bs) words end
-    (file-walked (rules command) held 1 b bs plain ∙ mps-walked command (b ∷ bs) held entries s)
-    (file-passes (shape command) held 1 b bs plain ∙ mps-passes command held entries s) more
-
-pub walks-aux : (command : Command) (held : Held) (entries : List Entry) (text : Text) (words : List Text) (end : Walk)
-    → is_plain text ≡ true → Stands command held entries
-    → Walks command (idle_at (pending_of entries (codes "aux") text) 3) words end
-    → Walks command (idle_at held 2) (text ∷ words) end
-walks-aux command held entries [] words end h s more = absurd cc
-walks-aux command held entries (b ∷ bs) words end h s more =
-    let plain = not-false (eqb b 45) h in
-    walks-word command _ _ (b ∷ bs) words end
-    (file-walked (rules command) held 2 b bs plain ∙ aux-walked command (b ∷ bs) held entries s)
-    (file-passes (shape command) held 2 b bs plain ∙ aux-passes command held entries s) more
-
--- ---- options
-
-abbrev option_held : List Rule → Text → Held → Held
-option_held rs id held = record (settled rs held) { pending = Some (id, []) }
-
-option-walked : (command : Command) (choice : Choice) → takes command choice ≡ true → (held : Held) (position : ℕ)
-    → walked (rules command) [] (idle_at held position) (word_of choice)
-    ≡ waiting_at (option_held (rules command) (id_of choice) held) position (id_of choice)
+apart-is_long : (choice : Choice) → IsLong (word_of choice) (id_of choice) None
 unfolding clap_on_literals
-option-walked Solve DefaultUpper t held position = refl
-option-walked Solve Nodes t held position = refl
-option-walked Solve FollowerNodes t held position = refl
-option-walked Show DefaultUpper t held position = refl
-option-walked Show Nodes t held position = absurd cc
-option-walked Show FollowerNodes t held position = absurd cc
+apart-is_long DefaultUpper = record { dashes = refl; long = refl }
+apart-is_long _ = record { dashes = refl; long = refl }
 
-option-passes : (command : Command) (choice : Choice) → takes command choice ≡ true → (held : Held) (position : ℕ)
-    → turn_passes (shape command) [] (idle_at held position) (word_of choice)
-    ≡ (settle_passes (rules command) false held && true)
+joined-is_long : (choice : Choice) (text : Text) → IsLong (word_of choice ++ 61 ∷ text) (id_of choice) (Some text)
 unfolding clap_on_literals
-option-passes Solve DefaultUpper t held position = refl
-option-passes Solve Nodes t held position = refl
-option-passes Solve FollowerNodes t held position = refl
-option-passes Show DefaultUpper t held position = refl
-option-passes Show Nodes t held position = absurd cc
-option-passes Show FollowerNodes t held position = absurd cc
+joined-is_long DefaultUpper text = record { dashes = refl; long = refl }
+joined-is_long _ text = record { dashes = refl; long = refl }
 
-abbrev valued : List Rule → List Entry → Text → Text → ℕ → Walk
-valued rs entries id text position = record (waiting_at (waiting_of entries id) position id) {
-  held = (option_word (arg_by_id rs id) id text (waiting_of entries id)).0;
-  waiting = (option_word (arg_by_id rs id) id text (waiting_of entries id)).1;
-}
+module _ (s : Shape) where
+  -- what is held comes to these entries, and clap takes it
+  pub record Stands (held : Held) (entries : List Entry) : Type 0 where
+    pub settles : settled s.rules held ≡ held_of entries
+    pub passes : settle_passes s.rules s.args_override_self held ≡ true
 
-option-valued : (command : Command) (choice : Choice) → takes command choice ≡ true → (entries : List Entry)
-    (text : Text) (position : ℕ)
-    → valued (rules command) entries (id_of choice) text position
-    ≡ idle_at (pending_of entries (id_of choice) text) position
-option-valued Solve DefaultUpper t entries text position = refl
-option-valued Solve Nodes t entries text position = refl
-option-valued Solve FollowerNodes t entries text position = refl
-option-valued Show DefaultUpper t entries text position = refl
-option-valued Show Nodes t entries text position = absurd cc
-option-valued Show FollowerNodes t entries text position = absurd cc
+  pub held-stands : (entries : List Entry) → Stands (held_of entries) entries
+  held-stands entries = record { settles = refl; passes = refl }
 
-walks-value : (command : Command) (choice : Choice) → takes command choice ≡ true → (entries : List Entry) (text : Text)
-    (position : ℕ) (words : List Text) (end : Walk) → is_plain text ≡ true
-    → Walks command (idle_at (pending_of entries (id_of choice) text) position) words end
-    → Walks command (waiting_at (waiting_of entries (id_of choice)) position (id_of choice)) (text ∷ words) end
-walks-value command choice t entries [] position words end h more = absurd cc
-walks-value command choice t entries (b ∷ bs) position words end h more =
-    let plain = not-false (eqb b 45) h in
-    walks-word command _ _ (b ∷ bs) words end
-    (value-walked (rules command) (waiting_of entries (id_of choice)) position (id_of choice) b bs plain
-    ∙ option-valued command choice t entries (b ∷ bs) position)
-    (value-passes (shape command) (waiting_of entries (id_of choice)) position (id_of choice) b bs plain) more
+  pub pending-stands : (entries : List Entry) (id text : Text) (long : Option Text) (index : Option ℕ) (required : Bool)
+      → arg_by_id s.rules id ≡ Some (argument id long index required) → has_row id (rows entries) ≡ false
+      → Stands (pending_of entries id text) (with entries id text)
+  pending-stands entries id text long index required found none = record {
+    settles = ap (λ (a : Option Rule). held_with (used_by_id a (text ∷ []) (rows entries))) found
+        ∙ ap held_with (adds-row id text entries none);
+    passes = ap (λ (a : Option Rule). option_map_or
+        (λ (a : Rule). use_passes s.args_override_self a (text ∷ []) (rows entries)) a true) found
+        ∙ first-passes _ _ none;
+  }
 
-pub walks-apart : (command : Command) (choice : Choice) → takes command choice ≡ true → (held : Held)
-    (entries : List Entry) (text : Text) (position : ℕ) (words : List Text) (end : Walk) → is_plain text ≡ true
-    → Stands command held entries
-    → Walks command (idle_at (pending_of entries (id_of choice) text) position) words end
-    → Walks command (idle_at held position) (word_of choice ∷ text ∷ words) end
-walks-apart command choice t held entries text position words end h s more =
-    walks-word command _ _ (word_of choice) (text ∷ words) end
-    (option-walked command choice t held position
-    ∙ ap (λ (x : Held). waiting_at (record x { pending = Some (id_of choice, []) }) position (id_of choice)) s.settles)
-    (option-passes command choice t held position ∙ ap (λ (b : Bool). b && true) s.passes)
-    (walks-value command choice t entries text position words end h more)
+  -- the walk over the words ends so, and clap takes each of them
+  pub record Walks (from : Walk) (words : List Text) (end : Walk) : Type 0 where
+    pub ends : fold (walked s.rules []) from words ≡ end
+    pub passes : walk_passes s [] from words ≡ true
 
--- what is held after an option that is joined to its value
-abbrev joined_held : Text → Text → Held → Held
-joined_held id text held = record held { rows = use_row id text held.rows; pending = None }
+  pub walks-none : (from : Walk) → Walks from [] from
+  unfolding walk_passes
+  walks-none from = record { ends = refl; passes = refl }
 
-joined-walked : (command : Command) (choice : Choice) → takes command choice ≡ true → (held : Held) (text : Text)
-    (position : ℕ)
-    → walked (rules command) [] (idle_at held position) (word_of choice ++ 61 ∷ text)
-    ≡ idle_at (joined_held (id_of choice) text (settled (rules command) held)) position
-unfolding clap_on_literals
-joined-walked Solve DefaultUpper t held text position = refl
-joined-walked Solve Nodes t held text position = refl
-joined-walked Solve FollowerNodes t held text position = refl
-joined-walked Show DefaultUpper t held text position = refl
-joined-walked Show Nodes t held text position = absurd cc
-joined-walked Show FollowerNodes t held text position = absurd cc
+  walks-word : (from after : Walk) (word : Text) (words : List Text) (end : Walk)
+      → walked s.rules [] from word ≡ after → turn_passes s [] from word ≡ true → Walks after words end
+      → Walks from (word ∷ words) end
+  unfolding walk_passes
+  walks-word from after word words end e p more = record {
+    ends = ap (λ (w : Walk). fold (walked s.rules []) w words) e ∙ more.ends;
+    passes = and-both _ _ p (ap (λ (w : Walk). walk_passes s [] w words) e ∙ more.passes);
+  }
 
-abbrev joined_passes : Bool → Bool → Bool
-joined_passes settles has = (settles && ((not has || false) && true)) && true
+  -- ---- files
 
-joined-passes : (command : Command) (choice : Choice) → takes command choice ≡ true → (held : Held) (text : Text)
-    (position : ℕ)
-    → turn_passes (shape command) [] (idle_at held position) (word_of choice ++ 61 ∷ text)
-    ≡ joined_passes (settle_passes (rules command) false held)
-    (has_row (id_of choice) (settled (rules command) held).rows)
-unfolding clap_on_literals
-joined-passes Solve DefaultUpper t held text position = refl
-joined-passes Solve Nodes t held text position = refl
-joined-passes Solve FollowerNodes t held text position = refl
-joined-passes Show DefaultUpper t held text position = refl
-joined-passes Show Nodes t held text position = absurd cc
-joined-passes Show FollowerNodes t held text position = absurd cc
+  file-walked : (held : Held) (position b : ℕ) (bs : Text) → eqb b 45 ≡ false
+      → walked s.rules [] (idle_at held position) (b ∷ bs)
+      ≡ to_positional s.rules (arg_by_index s.rules position) (b ∷ bs) (idle_at held position) held
+  unfolding walked
+  file-walked held position b bs h = rw (not_dashes b bs h, not_long b bs h, not_short b bs h) refl
 
-pub walks-joined : (command : Command) (choice : Choice) → takes command choice ≡ true → (held : Held)
-    (entries : List Entry) (text : Text) (position : ℕ) (words : List Text) (end : Walk)
-    → has_row (id_of choice) (rows entries) ≡ false → Stands command held entries
-    → Walks command (idle_at (held_of (with entries (id_of choice) text)) position) words end
-    → Walks command (idle_at held position) ((word_of choice ++ 61 ∷ text) ∷ words) end
-walks-joined command choice t held entries text position words end none s more =
-    walks-word command _ _ (word_of choice ++ 61 ∷ text) words end
-    (joined-walked command choice t held text position
-    ∙ ap (λ (x : Held). idle_at (joined_held (id_of choice) text x) position) s.settles
-    ∙ ap (λ (rs : List Row). idle_at (with_rows (held_of entries) rs) position)
-    (adds-row (id_of choice) text entries none))
-    (joined-passes command choice t held text position
-    ∙ ap₂ joined_passes s.passes (ap (λ (x : Held). has_row (id_of choice) x.rows) s.settles ∙ none)) more
+  file-passes : (held : Held) (position b : ℕ) (bs : Text) → eqb b 45 ≡ false
+      → turn_passes s [] (idle_at held position) (b ∷ bs) ≡ step_passes s position held value
+  file-passes held position b bs h = rw (not_dashes b bs h, not_long b bs h, not_short b bs h) refl
+
+  filed : (id : Text) (position : ℕ) (text : Text) (held : Held) (entries : List Entry) → HasFile s id position
+      → Stands held entries
+      → to_positional s.rules (arg_by_index s.rules position) text (idle_at held position) held
+      ≡ idle_at (pending_of entries id text) (min (position + 1) usize_max)
+  filed id position text held entries has stands =
+      ap (λ (a : Option Rule). to_positional s.rules a text (idle_at held position) held) has.by_index
+      ∙ ap (λ (again : Bool). idle_at (pushed id text (cond again held (settled s.rules held)))
+      (min (position + 1) usize_max)) (and-false _)
+      ∙ ap (λ (h : Held). idle_at (pushed id text h) (min (position + 1) usize_max)) stands.settles
+
+  filing-passes : (id : Text) (position : ℕ) (held : Held) (entries : List Entry) → HasFile s id position
+      → Stands held entries → step_passes s position held value ≡ true
+  filing-passes id position held entries has stands =
+      ap (λ (a : Option Rule). option_map_or
+      (λ (a : Rule). positional_passes s.rules s.args_override_self a held) a false) has.by_index
+      ∙ or-right _ _ stands.passes
+
+  -- a word is the file of the next positional
+  pub walks-file : (held : Held) (entries : List Entry) (id text : Text) (position : ℕ) (words : List Text) (end : Walk)
+      → HasFile s id position → is_plain text ≡ true → Stands held entries
+      → Walks (idle_at (pending_of entries id text) (min (position + 1) usize_max)) words end
+      → Walks (idle_at held position) (text ∷ words) end
+  walks-file held entries id [] position words end has h stands more = absurd cc
+  walks-file held entries id (b ∷ bs) position words end has h stands more =
+      let plain = not-false (eqb b 45) h in
+      walks-word _ _ (b ∷ bs) words end
+      (file-walked held position b bs plain ∙ filed id position (b ∷ bs) held entries has stands)
+      (file-passes held position b bs plain ∙ filing-passes id position held entries has stands) more
+
+  -- ---- values of options
+
+  -- after a value's word
+  abbrev valued : Held → ℕ → Text → Text → Option Rule → Walk
+  valued held position id text a = record (idle_at held position) {
+    held = (option_word a id text held).0;
+    waiting = (option_word a id text held).1;
+  }
+
+  value-walked : (held : Held) (position : ℕ) (id : Text) (b : ℕ) (bs : Text) → eqb b 45 ≡ false
+      → walked s.rules [] (waiting_at held position id) (b ∷ bs)
+      ≡ valued held position id (b ∷ bs) (arg_by_id s.rules id)
+  unfolding walked
+  value-walked held position id b bs h = rw (not_dashes b bs h, not_long b bs h, not_short b bs h) refl
+
+  value-passes : (held : Held) (position : ℕ) (id : Text) (b : ℕ) (bs : Text) → eqb b 45 ≡ false
+      → turn_passes s [] (waiting_at held position id) (b ∷ bs) ≡ true
+  value-passes held position id b bs h = rw (not_dashes b bs h, not_long b bs h, not_short b bs h) refl
+
+  value-taken : (entries : List Entry) (position : ℕ) (id text : Text)
+      → valued (opened id (held_of entries)) position id text (Some (option_argument id))
+      ≡ idle_at (pending_of entries id text) position
+  value-taken entries position id text =
+      ap (λ (b : Bool). record (idle_at (pending_of entries id text) position) {
+        waiting = cond (nat_lt (cond b 1 0) 1) (option id) idle;
+      }) ((bytes_eq-Decides id id).1 refl)
+
+  walks-value : (entries : List Entry) (id text : Text) (position : ℕ) (words : List Text) (end : Walk)
+      → HasOption s id → is_plain text ≡ true → Walks (idle_at (pending_of entries id text) position) words end
+      → Walks (waiting_at (opened id (held_of entries)) position id) (text ∷ words) end
+  walks-value entries id [] position words end has h more = absurd cc
+  walks-value entries id (b ∷ bs) position words end has h more =
+      let plain = not-false (eqb b 45) h in
+      walks-word _ _ (b ∷ bs) words end
+      (value-walked (opened id (held_of entries)) position id b bs plain
+      ∙ ap (valued (opened id (held_of entries)) position id (b ∷ bs)) has.by_id
+      ∙ value-taken entries position id (b ∷ bs))
+      (value-passes (opened id (held_of entries)) position id b bs plain) more
+
+  -- ---- options
+
+  abbrev long_turn : Held → Text → Option Text → Option Rule → Held × Step
+  long_turn held word joined a =
+      after_flag s.rules idle word (long_met s.rules a joined held).0 (long_met s.rules a joined held).1
+
+  -- after an option's word
+  abbrev after_long : Held → ℕ → Text → Option Text → Option Rule → Walk
+  after_long held position word joined a =
+      after_step s.rules word (idle_at held position) (long_turn held word joined a).0 (long_turn held word joined a).1
+
+  long-walked : (held : Held) (position : ℕ) (word id : Text) (joined : Option Text) → IsLong word id joined
+      → walked s.rules [] (idle_at held position) word
+      ≡ after_long held position word joined (arg_by_long s.rules id)
+  unfolding walked
+  long-walked held position word id joined is = rw (is.dashes, is.long) refl
+
+  abbrev long_turn_passes : Held → ℕ → Text → Option Text → Option Rule → Bool
+  long_turn_passes held position word joined a =
+      long_passes s.rules s.args_override_self a joined held
+      && step_passes s position (long_turn held word joined a).0 (long_turn held word joined a).1
+
+  long-passes : (held : Held) (position : ℕ) (word id : Text) (joined : Option Text) → IsLong word id joined
+      → turn_passes s [] (idle_at held position) word
+      ≡ long_turn_passes held position word joined (arg_by_long s.rules id)
+  long-passes held position word id joined is = rw (is.dashes, is.long) refl
+
+  option-is_step : (held : Held) (position : ℕ) (word id : Text) (joined : Option Text)
+      → step_passes s position (long_turn held word joined (Some (option_argument id))).0
+      (long_turn held word joined (Some (option_argument id))).1 ≡ true
+  option-is_step held position word id None = refl
+  option-is_step held position word id (Some text) = refl
+
+  walks-long : (held : Held) (position : ℕ) (word id : Text) (joined : Option Text) (words : List Text) (end : Walk)
+      → IsLong word id joined → HasOption s id
+      → option_passes s.rules s.args_override_self (option_argument id) joined held ≡ true
+      → Walks (after_long held position word joined (Some (option_argument id))) words end
+      → Walks (idle_at held position) (word ∷ words) end
+  walks-long held position word id joined words end is has passes more =
+      walks-word _ _ word words end
+      (long-walked held position word id joined is ∙ ap (after_long held position word joined) has.by_long)
+      (long-passes held position word id joined is ∙ ap (long_turn_passes held position word joined) has.by_long
+      ∙ and-both _ _ passes (option-is_step held position word id joined)) more
+
+  -- an option and its value, as two words
+  pub walks-apart : (choice : Choice) (held : Held) (entries : List Entry) (text : Text) (position : ℕ)
+      (words : List Text) (end : Walk) → HasOption s (id_of choice) → is_plain text ≡ true → Stands held entries
+      → Walks (idle_at (pending_of entries (id_of choice) text) position) words end
+      → Walks (idle_at held position) (word_of choice ∷ text ∷ words) end
+  walks-apart choice held entries text position words end has h stands more =
+      let id = id_of choice in
+      walks-long held position (word_of choice) id None (text ∷ words) end (apart-is_long choice) has stands.passes
+      (subst (λ (x : Held). Walks (waiting_at (opened id x) position id) (text ∷ words) end) (sym stands.settles)
+      (walks-value entries id text position words end has h more))
+
+  -- and joined in one
+  pub walks-joined : (choice : Choice) (held : Held) (entries : List Entry) (text : Text) (position : ℕ)
+      (words : List Text) (end : Walk) → HasOption s (id_of choice) → has_row (id_of choice) (rows entries) ≡ false
+      → Stands held entries → Walks (idle_at (held_of (with entries (id_of choice) text)) position) words end
+      → Walks (idle_at held position) ((word_of choice ++ 61 ∷ text) ∷ words) end
+  walks-joined choice held entries text position words end has none stands more =
+      let id = id_of choice in
+      walks-long held position (word_of choice ++ 61 ∷ text) id (Some text) words end (joined-is_long choice text) has
+      (and-both _ _ stands.passes
+      (first-passes _ _ (ap (λ (x : Held). has_row id x.rows) stands.settles ∙ none)))
+      (subst (λ (x : Held). Walks (idle_at (used_in id text x) position) words end) (sym stands.settles)
+      (subst (λ (rs : List Row). Walks (idle_at (held_with rs) position) words end)
+      (sym (adds-row id text entries none)) more))

@@ -1,7 +1,8 @@
 //! The commands as clap has them.
 ghost use Rattle.std.specs.Prelude.{◌≡◌, IfOk};
+ghost use Rattle.bl_words.specs.declared.commands.Command.TheVariants.{Solve, Check};
 ghost use Rattle.clap.specs.Words.{app_of};
-ghost use Rattle.bl_command_line.specs.Apps.{files_app, model_app, with_budgets};
+ghost use Rattle.bl_command_line.specs.Apps.{files_app, model_app};
 
 use bl_words::Command as Kind;
 use clap::{Arg, Command};
@@ -12,12 +13,32 @@ pub(crate) fn model_command<'a>(alloc: Global, kind: Kind) -> Result<Command<'a>
     ensures { IfOk result (λ command. app_of command ≡ model_app kind) }
 {
     match kind {
-        Kind::Solve => {
-            let files = files_command(alloc, "solve")?;
-            with_budgets(alloc, files)
-        }
+        Kind::Solve => solve_command(alloc),
         Kind::Show => files_command(alloc, "show"),
+        Kind::Check => check_command(alloc),
     }
+}
+
+/// `solve`, with the budgets of nodes and a file for its certificate.
+fn solve_command<'a>(alloc: Global) -> Result<Command<'a>, AllocError>
+    ensures { IfOk result (λ command. app_of command ≡ model_app Solve) }
+{
+    let nodes = Arg::new(alloc, "nodes").long("nodes");
+    let follower = Arg::new(alloc, "follower-nodes").long("follower-nodes");
+    let cert = Arg::new(alloc, "cert").long("cert");
+    let files = files_command(alloc, "solve")?;
+    let with_nodes = files.arg(nodes)?;
+    let with_budgets = with_nodes.arg(follower)?;
+    with_budgets.arg(cert)
+}
+
+/// `check`, which needs a third file.
+fn check_command<'a>(alloc: Global) -> Result<Command<'a>, AllocError>
+    ensures { IfOk result (λ command. app_of command ≡ model_app Check) }
+{
+    let cert = Arg::new(alloc, "cert").required(true);
+    let files = files_command(alloc, "check")?;
+    files.arg(cert)
 }
 
 /// A command of this name over two files with a default upper bound.
@@ -30,14 +51,4 @@ fn files_command<'a>(alloc: Global, name: &'a str) -> Result<Command<'a>, AllocE
     let with_mps = Command::new(alloc, name).disable_help_flag(true).arg(mps)?;
     let with_aux = with_mps.arg(aux)?;
     with_aux.arg(upper)
-}
-
-/// The command with the budgets of nodes.
-fn with_budgets<'a>(alloc: Global, command: Command<'a>) -> Result<Command<'a>, AllocError>
-    ensures { IfOk result (λ whole. app_of whole ≡ with_budgets (app_of command.entry)) }
-{
-    let nodes = Arg::new(alloc, "nodes").long("nodes");
-    let follower = Arg::new(alloc, "follower-nodes").long("follower-nodes");
-    let with_nodes = command.arg(nodes)?;
-    with_nodes.arg(follower)
 }

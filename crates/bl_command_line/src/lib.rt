@@ -7,7 +7,7 @@
 mod command;
 mod words;
 
-pub use words::{show_words, solve_words};
+pub use words::model_words;
 
 #[cfg(test)]
 mod tests;

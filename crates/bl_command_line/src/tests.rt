@@ -1,26 +1,34 @@
 //! Words in each order, as clap reads them.
 use super::*;
-use bl_words::SolveWords;
+use bl_words::{Command, ModelWords};
 use std::alloc::{AllocError, Global};
 use std::test::Fail;
 
-/// What the words say, as `MPS AUX U N F` or, of `show`, as `MPS AUX U`.
+/// What the words say, as `COMMAND MPS AUX CERT U N F`, with `-` where no certificate is named.
 fn said(alloc: Global, words: &[String]) -> Result<Option<String>, AllocError> {
-    if let Some(read) = solve_words(alloc, words)? {
-        let said = solve_text(alloc, read)?;
-        return Ok(Some(said));
-    }
-    if let Some(read) = show_words(alloc, words)? {
-        let said = format!(in alloc; "{} {} {}", read.mps, read.aux, read.default_upper)?;
-        return Ok(Some(said));
+    for command in [Command::Solve, Command::Show, Command::Check] {
+        if let Some(read) = model_words(alloc, command, words)? {
+            let said = text_of(alloc, command, read)?;
+            return Ok(Some(said));
+        }
     }
     Ok(None)
 }
 
-fn solve_text(alloc: Global, read: SolveWords<'_>) -> Result<String, AllocError> {
+fn text_of(alloc: Global, command: Command, read: ModelWords<'_>) -> Result<String, AllocError> {
+    let cert = match read.cert {
+        Some(cert) => cert,
+        None => "-",
+    };
     format!(in alloc;
-        "{} {} {} {} {}",
-        read.mps, read.aux, read.default_upper, read.nodes, read.follower_nodes
+        "{} {} {} {} {} {} {}",
+        command.name(),
+        read.mps,
+        read.aux,
+        cert,
+        read.default_upper,
+        read.nodes,
+        read.follower_nodes
     )
 }
 
@@ -36,36 +44,68 @@ fn said_of(alloc: Global, line: &str) -> Result<Option<String>, AllocError> {
 #[test]
 fn orders_of_words(rt: HostRuntime) -> Result<(), Fail> {
     for (line, want) in [
-        ("solve|a|b", Some("a b 1 200000 50000")),
-        ("solve|a|b|--default-upper|9", Some("a b 9 200000 50000")),
-        ("show|a|--default-upper|9|b", Some("a b 9")),
-        ("show|--default-upper=9|a|b", Some("a b 9")),
-        ("solve|a|--nodes|5|b", Some("a b 1 5 50000")),
-        ("solve|--nodes=5|a|b", Some("a b 1 5 50000")),
-        ("solve|--follower-nodes|6|a|b", Some("a b 1 200000 6")),
-        ("solve|a|b|--follower-nodes=6", Some("a b 1 200000 6")),
+        ("solve|a|b", "solve a b - 1 200000 50000"),
+        ("solve|a|b|--default-upper|9", "solve a b - 9 200000 50000"),
+        ("solve|a|--nodes|5|b", "solve a b - 1 5 50000"),
+        ("solve|--nodes=5|a|b", "solve a b - 1 5 50000"),
+        ("solve|--follower-nodes|6|a|b", "solve a b - 1 200000 6"),
+        ("solve|a|b|--follower-nodes=6", "solve a b - 1 200000 6"),
+        ("solve|a|b|--cert|c", "solve a b c 1 200000 50000"),
+        ("solve|--cert=c|a|b", "solve a b c 1 200000 50000"),
+        ("solve|a|--cert|c=d|b", "solve a b c=d 1 200000 50000"),
         (
-            "solve|--follower-nodes=6|a|--default-upper|9|b|--nodes=5",
-            Some("a b 9 5 6"),
+            "solve|--follower-nodes=6|--cert|c|a|--default-upper|9|b|--nodes=5",
+            "solve a b c 9 5 6",
         ),
-        ("solve|mps|nodes=5", Some("mps nodes=5 1 200000 50000")),
+        (
+            "solve|mps|nodes=5|--cert=cert",
+            "solve mps nodes=5 cert 1 200000 50000",
+        ),
+        ("show|a|--default-upper|9|b", "show a b - 9 200000 50000"),
+        ("show|--default-upper=9|a|b", "show a b - 9 200000 50000"),
         (
             "show|help|--default-upper=0|version",
-            Some("help version 0"),
+            "show help version - 0 200000 50000",
         ),
-        ("solve|a|b|--help", None),
-        ("show|a|b|-h", None),
-        ("show|a|b|--", None),
-        ("show|a|b|--nodes|5", None),
-        ("solve|a|b|--nodes=x", None),
-        ("solve|a|b|--nodes=5|--nodes|5", None),
+        ("check|a|b|c", "check a b c 1 200000 50000"),
+        (
+            "check|a|b|--default-upper|9|c",
+            "check a b c 9 200000 50000",
+        ),
+        (
+            "check|cert|--default-upper=9|mps|aux",
+            "check cert mps aux 9 200000 50000",
+        ),
     ] {
         let said = said_of(rt.alloc(), line)?;
         assert_eq!(rt;
             said.as_ref().map(|text| text.as_str()),
-            want,
+            Some(want),
             "at {line:?}"
         );
+    }
+    Ok(())
+}
+
+#[test]
+fn refused_words(rt: HostRuntime) -> Result<(), Fail> {
+    for line in [
+        "solve|a|b|--help",
+        "solve|a|b|c",
+        "solve|a|b|--nodes=x",
+        "solve|a|b|--nodes=5|--nodes|5",
+        "solve|a|b|--cert",
+        "solve|a|b|--cert=c|--cert|d",
+        "show|a|b|-h",
+        "show|a|b|--",
+        "show|a|b|--nodes|5",
+        "show|a|b|--cert=c",
+        "check|a|b",
+        "check|a|b|c|d",
+        "check|a|b|--cert=c",
+    ] {
+        let said = said_of(rt.alloc(), line)?;
+        assert!(rt; said.is_none(), "at {line:?}");
     }
     Ok(())
 }

@@ -1,3 +1,5 @@
+pub mod CertLemmas
+pub mod CheckLemmas
 pub mod OutcomeLemmas
 pub mod PromiseLemmas
 pub mod SolveLemmas

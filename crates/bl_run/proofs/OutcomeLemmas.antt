@@ -1,6 +1,7 @@
 -- From the outcome of a search to what is said of it.
 use Rattle.std.proofs.Common.{◌≡◌, ℕ, ◌∙◌, List, length, ap, arith, refl, sym, subst}
 use Rattle.std.specs.Prelude.{ℤ, Option, None, Some, MatchOption}
+use Rattle.std.specs.Option.{option_map_or}
 use Rattle.bl_raw.specs.declared.raw.RawColumn.{RawColumn}
 use Rattle.bl_terms.specs.Programs.{Program, value_at}
 use Rattle.bl_terms.specs.Feasible.{Optimal, Infeasible}
@@ -13,16 +14,18 @@ use Rattle.bl_core.specs.declared.outcome.Ended.{Ended}
 use Rattle.bl_core.specs.declared.outcome.Ended.TheVariants as ended
 use Rattle.bl_core.specs.Accounts.{KeptBook, IsKept}
 use Rattle.bl_core.specs.Outcomes as search
+use Rattle.bl_cert_terms.specs.Certificates.{StatementHolds}
+use Rattle.bl_cert_book.specs.BookCertificates.{stated_by}
 use Rattle.bl_team.specs.declared.settings.Settings.{Settings}
 use Rattle.bl_team.specs.Answers.{EndsWithin, AreSettings, IsOutcomeFor}
 use Rattle.bl_run.specs.declared.status.Answer.{Answer}
 use Rattle.bl_run.specs.declared.status.Failure.{Failure}
 use Rattle.bl_run.specs.declared.status.Failure.TheVariants as failure
 use Rattle.bl_run.specs.Words.{ModelWords}
-use Rattle.bl_run.specs.Endings.{Ending, FollowerSpent}
-use Rattle.bl_run.specs.Report.{Answers, statement_of}
-use Rattle.bl_run.specs.Solve.{Outcome, ShowsSpent, IsSolved, settings_of, ending_at}
-use Rattle.bl_run.specs.Steps.{failure_ending, AreBudgets, IsReport, IsReportOf, IsSpent, FailsToSolve}
+use Rattle.bl_run.specs.Endings.{Ending, NoPoint, Done, FollowerSpent}
+use Rattle.bl_run.specs.Promise.{EndsSpent}
+use Rattle.bl_run.specs.Solve.{Outcome, ShowsSpent, IsSolved, settings_of, ending_at, ending_of}
+use Rattle.bl_run.specs.Steps.{failure_ending, AreBudgets, IsCertText, IsReport, IsReportOf, IsSpent, FailsToSolve}
 
 -- ---- settings
 
@@ -51,12 +54,13 @@ own_outcome p workers s o h = record {
 -- ---- what an outcome states
 
 best_right : (p : Program) (best : Option Incumbent)
-    → MatchOption best (Infeasible p) (λ f. Optimal p f.point (value_at p f.point)) → Answers p (statement_of p best)
+    → MatchOption best (Infeasible p) (λ f. Optimal p f.point (value_at p f.point))
+    → StatementHolds p (stated_by p best)
 best_right p None h = h
 best_right p (Some f) h = h
 
 right_by : (b : Book) (end : Ended) → search.Answers b end → end ≡ ended.Done
-    → Answers b.program (statement_of b.program b.best)
+    → StatementHolds b.program (stated_by b.program b.best)
 right_by b ended.Done h e = best_right b.program b.best h
 right_by b (ended.Nodes node why) h e = cc
 right_by b (ended.Follower spent) h e = cc
@@ -96,6 +100,19 @@ solved words o found kept cause answers left =
 
 -- ---- what is told of it
 
+-- an answer spends no budget
+pub answer_unspent : (best : Option Incumbent) → EndsSpent (option_map_or (λ f. Done) best NoPoint) → ⊥
+answer_unspent None is = is
+answer_unspent (Some f) is = is
+
+-- a search that spent a budget isn't done
+pub spent_undone : (words : ModelWords) (o : Outcome) (ending : Ending) → ending_of words o ≡ ending
+    → EndsSpent ending → o.end ≡ ended.Done → ⊥
+spent_undone words o ending same is done =
+    let answers : ending ≡ option_map_or (λ f. Done) o.book.ledger.book.best NoPoint =
+    sym same ∙ ap (λ (e : Ended). ending_at words o.book.ledger.book e) done in
+    answer_unspent o.book.ledger.book.best (subst EndsSpent answers is)
+
 -- a failure that ends with the follower's budget is one of the search
 pub fails_spent : (p : Program) (words : ModelWords) (failure : Failure) (budget made : ℕ) (link : List ℤ)
     → failure_ending failure ≡ FollowerSpent budget made link → IsSpent p words (FollowerSpent budget made link)
@@ -106,8 +123,10 @@ fails_spent p words (failure.NodesSpent limit count) budget made link e h = cc
 fails_spent p words (failure.FollowerSpent limit count values) budget made link e h =
     subst (λ (ending : Ending). IsSpent p words ending) (sym e) h
 fails_spent p words (failure.ReadFault file) budget made link e h = cc
+fails_spent p words (failure.FileFault file) budget made link e h = cc
 fails_spent p words failure.WriteFault budget made link e h = cc
 fails_spent p words failure.Memory budget made link e h = tt
+fails_spent p words (failure.NotAccepted file line rule) budget made link e h = cc
 fails_spent p words (failure.Missing file) budget made link e h = cc
 
 -- the parts of an outcome, as they are lent
@@ -122,16 +141,17 @@ module _ (words : ModelWords) (o : Outcome) (book : KeptBook) (end : Ended)
 
   -- the best incumbent of a search that is done answers the program
   pub done_right : end ≡ ended.Done
-      → Answers book.ledger.book.program (statement_of book.ledger.book.program book.ledger.book.best)
+      → StatementHolds book.ledger.book.program (stated_by book.ledger.book.program book.ledger.book.best)
   done_right done =
       subst
-      (λ (b : KeptBook). Answers b.ledger.book.program (statement_of b.ledger.book.program b.ledger.book.best))
+      (λ (b : KeptBook). StatementHolds b.ledger.book.program (stated_by b.ledger.book.program b.ledger.book.best))
       (sym book_is) (right_by o.book.ledger.book o.end answers (sym end_is ∙ done))
 
-  pub reports : (columns : List RawColumn) (answer : Answer) (text : List ℕ) → end ≡ ended.Done
+  pub reports : (columns : List RawColumn) (answer : Answer) (text cert : List ℕ) → end ≡ ended.Done
       → IsReportOf columns book.ledger.book.program book.ledger.book.best answer text
-      → IsReport columns o.book.ledger.book.program words answer text
-  reports columns answer text done r =
+      → IsCertText words.cert book.ledger.book cert
+      → IsReport columns o.book.ledger.book.program words answer text cert
+  reports columns answer text cert done r certificate =
       let told =
       subst (λ (b : KeptBook). IsReportOf columns b.ledger.book.program b.ledger.book.best answer text) book_is r in
       let is : o.end ≡ ended.Done = sym end_is ∙ done in
@@ -141,6 +161,7 @@ module _ (words : ModelWords) (o : Outcome) (book : KeptBook) (end : Ended)
         done = is;
         same = ap (λ (e : Ended). ending_at words o.book.ledger.book e) is ∙ told.same;
         spelled = told.spelled;
+        certified = subst (λ (b : KeptBook). IsCertText words.cert b.ledger.book cert) book_is certificate;
       }
 
   pub spends : (ending : Ending) → Exhausts end → ending_at words book.ledger.book end ≡ ending

@@ -1,9 +1,7 @@
--- Sizes of a point's value and of the words' numbers.
+-- Sizes of a point's value.
 use Rattle.std.proofs.Common.{◌≡◌, ◌≤◌, length, ⊎_elim, arith}
 use Rattle.std.specs.Prelude.{ℤ, List, ◌*ℤ◌, FitsSigned}
 use Rattle.std.specs.Int.{w64}
-use Rattle.bl_limits.specs.declared.TheConstants.{MAX_NUMBER}
-use Rattle.bl_run.specs.Steps.{IsDefaultUpper}
 use Rattle.bl_whole.specs.Within.{IsWithin, AreWithin}
 use Rattle.bl_whole.proofs.WithinLemmas.{within_dot, within_product, within_more, fits_from_within}
 use Rattle.bl_terms.specs.Programs.{Program, InBox, columns, follower_at}
@@ -29,8 +27,3 @@ follower_fits p z m is =
 pub program-columns : (mps : RawMps) (aux : RawAux) → columns (program_of mps aux) ≡ length mps.columns
 unfolding program_of
 program-columns mps aux = length-map mps.columns (λ c. c.lo)
-
--- a default upper bound fits 64 bits
-pub upper_fits : (u : ℤ) → IsDefaultUpper u → FitsSigned w64 u
-upper_fits u h = let within : IsWithin MAX_NUMBER u = record { magnitude = h.1 } in fits_from_within w64 within
-    (omega arith)

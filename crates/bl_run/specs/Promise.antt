@@ -1,14 +1,17 @@
 -- Trusted: all that a top call promises of its words, its files and its outputs.
-use Rattle.std.specs.Prelude.{◌≡◌, ◌⊎◌, ℕ, Bool, List, Option, None, Some, ⊤}
+use Rattle.std.specs.Prelude.{◌≡◌, ◌⊎◌, ℕ, Bool, List, Option, None, Some, take, ⊤}
 use Rattle.bl_outer.specs.Count.{Grew}
-use Rattle.bl_outer.specs.Files.{Files, IfTold, Told}
+use Rattle.bl_outer.specs.Files.{Files, Holds, OthersStay, IfTold, Told}
 use Rattle.bl_outer.specs.Shelf.{ShelfState, FaultsOn, NoReadFault}
 use Rattle.bl_outer.specs.Sink.{SinkState, Adds, AddsPrefix}
 use Rattle.bl_words.specs.declared.commands.Command.{Command}
-use Rattle.bl_run.specs.Words.{AreAsked, AreRefused}
+use Rattle.bl_words.specs.declared.commands.Command.TheVariants.{Solve, Show, Check}
+use Rattle.bl_run.specs.Words.{ModelWords, AreAsked, AreRefused}
 use Rattle.bl_run.specs.Endings.{Place, ToFile, ToOutput, Ending, Done, NoPoint, BadWords, BadText, ReadFault}
-use Rattle.bl_run.specs.Endings.{NodesSpent, FollowerSpent, WriteFault, OutOfMemory, Missing, status_of, line_of}
-use Rattle.bl_run.specs.Solve.{Run, report, ReadsBoth, IsAmple, RefusesText, IsMissing, IsCause}
+use Rattle.bl_run.specs.Endings.{NodesSpent, FollowerSpent, WriteFault, OutOfMemory, NotAccepted, Missing, status_of}
+use Rattle.bl_run.specs.Endings.{line_of}
+use Rattle.bl_run.specs.Solve.{Run, report, ReadsBoth, IsAmple, IsProvided, RefusesText, RefusesCert, IsMissing}
+use Rattle.bl_run.specs.Solve.{IsCause}
 
 -- what a command works on: the files and the output
 pub record Outside : Type 0 where
@@ -40,26 +43,31 @@ EndsSpent (NodesSpent budget made) = ⊤
 EndsSpent (FollowerSpent budget made link) = ⊤
 EndsSpent _ = ⊥
 
--- a cause that stands in the files gives its ending: texts that are read are answered, or a budget is spent, which
--- ample ones never are
+-- a cause that stands in the files gives its ending: texts that are read are answered, and so is a certificate that is
+-- accepted, or a budget is spent, which ample ones never are
 pub record IsDue (does : Command → Bool) (words : List (List ℕ)) (ending : Ending) (files : Files) : Type 0 where
   pub refused : (run : Run) (file : List ℕ) (place : Place) (rule : List ℕ)
       → AreAsked does words run.words → RefusesText (Some files) run file place rule
       → (ending ≡ BadText file place rule) ⊎ ComesFirst ending
+  pub not_accepted : (run : Run) (file : List ℕ) (line : ℕ) (rule : List ℕ)
+      → AreAsked does words run.words → RefusesCert (Some files) run file line rule
+      → (ending ≡ NotAccepted file line rule) ⊎ ComesFirst ending
   pub missing : (run : Run) (file : List ℕ)
       → AreAsked does words run.words → IsMissing (Some files) run file → (ending ≡ Missing file) ⊎ ComesFirst ending
   pub ended : (run : Run)
       → AreAsked does words run.words → ReadsBoth (Some files) run
-      → EndsInAnswer ending ⊎ (EndsSpent ending ⊎ ComesFirst ending)
+      → IsProvided run.words.command (Some files) run → EndsInAnswer ending ⊎ (EndsSpent ending ⊎ ComesFirst ending)
   pub answered : (run : Run)
       → AreAsked does words run.words → ReadsBoth (Some files) run
-      → IsAmple run.words.command run → EndsInAnswer ending ⊎ ComesFirst ending
+      → IsProvided run.words.command (Some files) run → IsAmple run.words.command run
+      → EndsInAnswer ending ⊎ ComesFirst ending
 
--- what the ending leaves on the output: the report, some first bytes of it, or nothing
+-- what the ending leaves on the output: the report, some first bytes of it, or nothing. Nothing is printed before the
+-- certificate is written
 abbrev pub Prints : Run → Ending → Option (List ℕ) → Option (List ℕ) → Type 0
 Prints run Done old new = Told (Adds (report run)) old new
 Prints run NoPoint old new = Told (Adds (report run)) old new
-Prints run (WriteFault target) old new = Told (AddsPrefix (report run)) old new
+Prints run (WriteFault ToOutput) old new = Told (AddsPrefix (report run)) old new
 Prints run _ old new = new ≡ old
 
 -- a read fault is counted, and is of the file that is named; else none is
@@ -80,13 +88,43 @@ WriteFaultsAt (WriteFault ToOutput) old new = Grew old.out.faults new.out.faults
     × (new.files.write_faults ≡ old.files.write_faults)
 WriteFaultsAt _ old new = (new.files.write_faults ≡ old.files.write_faults) × (new.out.faults ≡ old.out.faults)
 
--- what an ending leaves outside: what is printed, what is counted, and each file as it was
+-- the file has the text, and every other file is as before
+pub record Writes (name text : List ℕ) (old new : Files) : Type 0 where
+  pub file : Holds new name text
+  pub others : OthersStay name old new
+
+-- nothing has changed, or the file has some first bytes of the text and every other file is as before
+abbrev pub WritesPrefix : List ℕ → List ℕ → Files → Files → Type 0
+WritesPrefix name text old new = (new ≡ old) ⊎ ((n : ℕ) × Writes name (take n text) old new)
+
+-- the file that the command writes, where it is asked to: the certificate of `solve`
+abbrev pub written_by : Command → ModelWords → Option (List ℕ)
+written_by Solve words = words.cert
+written_by Show words = None
+written_by Check words = None
+
+-- the certificate is written before the answer is printed; where writing it failed, some first bytes of it may be.
+-- Every other file is as before
+abbrev pub LeavesFile : List ℕ → List ℕ → Ending → Option Files → Option Files → Type 0
+LeavesFile name text Done old new = Told (Writes name text) old new
+LeavesFile name text NoPoint old new = Told (Writes name text) old new
+LeavesFile name text (WriteFault ToOutput) old new = Told (Writes name text) old new
+LeavesFile name text (WriteFault (ToFile file)) old new = Told (WritesPrefix name text) old new
+LeavesFile name text _ old new = new ≡ old
+
+-- without one every file is as before
+abbrev pub LeavesFiles : Option (List ℕ) → List ℕ → Ending → Option Files → Option Files → Type 0
+LeavesFiles None text ending old new = new ≡ old
+LeavesFiles (Some name) text ending old new = LeavesFile name text ending old new
+
+-- what an ending leaves outside: what is printed, what is counted, and the files
 pub record Leaves (run : Run) (ending : Ending) (old new : Outside) : Type 0 where
   pub printed : Prints run ending old.out.bytes new.out.bytes
   pub read_faults : ReadFaultsAt ending old.files new.files
   pub misses : MissesAt ending old.files.misses new.files.misses
   pub write_faults : WriteFaultsAt ending old new
-  pub files : new.files.contents ≡ old.files.contents
+  pub files : LeavesFiles (written_by run.words.command run.words) run.cert_text ending old.files.contents
+      new.files.contents
 
 -- The line stands at the end, or some first bytes of it do and the count of faults rose. Without a line nothing
 -- changed.

@@ -1,30 +1,15 @@
--- Trusted: an answer to a program, and the report of it.
-use Rattle.std.specs.Prelude.{ℕ, List, [], ◌∷◌, ◌++◌, ℤ, ◌*ℤ◌, codes, Option}
+-- Trusted: the report of what is stated of a program.
+use Rattle.std.specs.Prelude.{ℕ, List, [], ◌∷◌, ◌++◌, ℤ, ◌*ℤ◌, codes}
 use Rattle.std.specs.Fmt.{decimal, signed_decimal}
 use Rattle.std.specs.List.{flat_map}
-use Rattle.std.specs.Option.{option_map_or}
 use Rattle.bl_raw.specs.declared.raw.RawColumn.{RawColumn}
 use Rattle.bl_raw.specs.declared.raw.RawMps.{RawMps}
 use Rattle.bl_raw.specs.declared.raw.RawAux.{RawAux}
 use Rattle.bl_aux.specs.Canonical.{aux_text}
 use Rattle.bl_mps_write.specs.Canonical.{mps_text}
-use Rattle.bl_terms.specs.Programs.{Program, value_at, follower_at}
-use Rattle.bl_terms.specs.Feasible.{Optimal, Infeasible}
-use Rattle.bl_leaf_terms.specs.Incumbents.{Incumbent}
-
--- a statement of a program: a point is optimal with a value, or there is no bilevel feasible point
-pub data Statement : Type 0 where
-  Best : List ℤ → ℤ → Statement
-  None : Statement
-
--- the statement answers the program
-abbrev pub Answers : Program → Statement → Type 0
-Answers p (Best z v) = Optimal p z v
-Answers p None = Infeasible p
-
--- what a search states that is done: its best incumbent is optimal, and without one there is no bilevel feasible point
-abbrev pub statement_of : Program → Option Incumbent → Statement
-statement_of p best = option_map_or (λ f. Best f.point (value_at p f.point)) best None
+use Rattle.bl_terms.specs.Programs.{Program, follower_at}
+use Rattle.bl_cert_terms.specs.declared.stated.Statement.{Statement}
+use Rattle.bl_cert_terms.specs.declared.stated.Statement.TheVariants.{Optimal, Infeasible}
 
 -- `column NAME VALUE`
 abbrev pub column_line : RawColumn → ℤ → List ℕ
@@ -44,8 +29,12 @@ optimal_text columns point value follower =
 
 -- the report of a statement of a program with these columns; the follower's value is in the sense of the auxiliary text
 abbrev pub report_of : List RawColumn → Program → Statement → List ℕ
-report_of columns p (Best z v) = optimal_text columns z v (follower_at p z *ℤ p.sense)
-report_of columns p None = codes "infeasible\n"
+report_of columns p (Optimal z v) = optimal_text columns z v (follower_at p z *ℤ p.sense)
+report_of columns p Infeasible = codes "infeasible\n"
+
+-- what `check` prints of an accepted certificate's statement
+abbrev pub accepted_report : List RawColumn → Program → Statement → List ℕ
+accepted_report columns p s = codes "accepted\n" ++ report_of columns p s
 
 -- `links` and the linking columns
 abbrev pub links_line : List ℕ → List ℕ

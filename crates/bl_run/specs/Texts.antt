@@ -1,4 +1,4 @@
--- Trusted: what the two texts of a model say, and how a text that says nothing is refused.
+-- Trusted: what the two texts of a model say, how a text that says nothing is refused, and the names of rules.
 use Rattle.std.specs.Prelude.{◌≡◌, ℕ, ℤ, ◌==◌, Bool, true, false, List, length, Some, codes, if◌then◌else◌}
 use Rattle.bl_raw.specs.declared.raw.RawMps.{RawMps}
 use Rattle.bl_raw.specs.declared.raw.RawAux.{RawAux}
@@ -12,6 +12,8 @@ use Rattle.bl_aux.specs.declared.fault.AuxRule.{AuxRule}
 use Rattle.bl_aux.specs.declared.fault.AuxRule.TheVariants as aux
 use Rattle.bl_aux.specs.Given.{Sizes, sizes_of}
 use Rattle.bl_aux.specs.Texts.{Says, IsFirstFault}
+use Rattle.bl_check_terms.specs.declared.rule.CertRule.{CertRule}
+use Rattle.bl_check_terms.specs.declared.rule.CertRule.TheVariants as cert
 use Rattle.bl_run.specs.Endings.{Place, AtLine, AtColumn, AsWhole}
 
 -- lines count from 1, and 0 stands for the whole
@@ -100,3 +102,21 @@ pub record IsAuxFault (mps : RawMps) (text : List ℕ) (place : Place) (rule : L
   pub first : IsFirstFault (sizes mps) text fault
   pub at : place ≡ line_place fault.line
   pub by_rule : rule ≡ aux_rule fault.rule
+
+-- ---- certificates
+
+-- a rule by its name
+abbrev pub cert_rule : CertRule → List ℕ
+cert_rule cert.Syntax = codes "Syntax"
+cert_rule cert.Place = codes "Place"
+cert_rule cert.Sense = codes "Sense"
+cert_rule cert.Point = codes "Point"
+cert_rule cert.Best = codes "Best"
+cert_rule cert.Follower = codes "Follower"
+cert_rule cert.Size = codes "Size"
+cert_rule cert.Inverse = codes "Inverse"
+cert_rule cert.Tight = codes "Tight"
+cert_rule cert.Response = codes "Response"
+cert_rule cert.Cited = codes "Cited"
+cert_rule cert.Proof = codes "Proof"
+cert_rule cert.Tail = codes "Tail"

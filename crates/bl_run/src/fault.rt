@@ -1,10 +1,11 @@
 //! The rule that a text breaks first, and where.
 
 ghost use Rattle.std.specs.Prelude.{◌≡◌};
-ghost use Rattle.bl_run.specs.Texts.{mps_rule, mps_place, is_of_column, aux_rule, line_place};
+ghost use Rattle.bl_run.specs.Texts.{mps_rule, mps_place, is_of_column, aux_rule, cert_rule, line_place};
 ghost use Rattle.bl_run.specs.Steps.{place_of};
 
 use bl_aux::{AuxFault, AuxRule};
+use bl_check::CertRule;
 use bl_mps::{MpsFault, MpsRule};
 
 /// Where a text breaks a rule. Lines count from 1, and columns of the model from 0.
@@ -118,5 +119,26 @@ fn aux_rule(rule: AuxRule) -> &'static str
         AuxRule::BadSense => "BadSense",
         AuxRule::CountDiffers => "CountDiffers",
         AuxRule::TooLong => "TooLong",
+    }
+}
+
+/// A rule of certificates by its name.
+pub(crate) fn cert_rule(rule: CertRule) -> &'static str
+    ensures { result.now ≡ cert_rule rule }
+{
+    match rule {
+        CertRule::Syntax => "Syntax",
+        CertRule::Place => "Place",
+        CertRule::Sense => "Sense",
+        CertRule::Point => "Point",
+        CertRule::Best => "Best",
+        CertRule::Follower => "Follower",
+        CertRule::Size => "Size",
+        CertRule::Inverse => "Inverse",
+        CertRule::Tight => "Tight",
+        CertRule::Response => "Response",
+        CertRule::Cited => "Cited",
+        CertRule::Proof => "Proof",
+        CertRule::Tail => "Tail",
     }
 }

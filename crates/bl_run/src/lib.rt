@@ -1,6 +1,8 @@
 //! The program's commands.
 #![tactic(auto)]
 
+mod cert;
+mod check;
 mod fault;
 mod read;
 mod report;
@@ -12,4 +14,4 @@ mod tests;
 mod top;
 
 pub use status::Status;
-pub use top::{out_of_memory, run, run_alone, run_show};
+pub use top::{out_of_memory, run, run_alone, run_check, run_show};

@@ -1,53 +1,50 @@
 //! The command `show`.
 
-ghost use Rattle.std.specs.Prelude.{◌≡◌, ◌++◌, length, codes, decimal, IfOk, OnOk};
+ghost use Rattle.std.specs.Prelude.{◌≡◌, ◌++◌, codes, decimal, IfOk, OnOk};
 ghost use Rattle.std.specs.List.{flat_map};
-ghost use Rattle.bl_raw.specs.Raw.{IsRawModel, FitsModel};
-ghost use Rattle.bl_model.specs.Build.{program_of};
 ghost use Rattle.bl_run.specs.Report.{show_text, links_line};
-ghost use Rattle.bl_run.specs.Steps.{result_ending, Ends, IsDefaultUpper, show_asked};
+ghost use Rattle.bl_run.specs.Steps.{result_ending, Ends, IsDefaultUpper, asked_by, AreWithin, program_in};
+ghost use Rattle.bl_words.specs.declared.commands.Command.TheVariants as commands;
 
-use crate::read::{read_aux, read_mps};
+use crate::read::{Texts, read_texts};
 use crate::status::{Answer, Failure};
 use bl_aux::write_aux;
 use bl_model::build;
 use bl_mps_write::write_mps;
 use bl_outer::{Shelf, Sink};
-use bl_raw::{RawAux, RawMps};
-use bl_words::ShowWords;
+use bl_words::ModelWords;
 use itoa::Buffer;
 use std::alloc::{AllocError, Global};
 
 /// Reads both texts, and prints them in their canonical form with the linking columns.
 pub(crate) fn show<'a, F: Shelf, O: Sink>(
     alloc: Global,
-    words: ShowWords<'a>,
+    words: &ModelWords<'a>,
     files: &mut F,
     out: &mut O,
 ) -> Result<Answer, Failure<'a>>
-    requires { IsDefaultUpper words.default_upper }
-    ensures { Ends (show_asked words.entry)
+    requires { IsDefaultUpper words.now.default_upper }
+    ensures { Ends (asked_by commands.Show words.now)
         (record { files = F.state files.old; out = O.state out.old })
         (record { files = F.state files.new; out = O.state out.new })
         (result_ending result) }
 {
-    let mps = read_mps(alloc, files, words.mps, words.default_upper)?;
-    let aux = read_aux(alloc, files, words.aux, &mps)?;
-    let text = shown(alloc, &mps, &aux)?;
+    let texts = read_texts(alloc, words, files)?;
+    let text = shown(alloc, &texts)?;
     out.put(&text)?;
     Ok(Answer::Shown)
 }
 
 /// What is printed of a model and its follower.
 #[tactic(auto, unfolding(crate::specs::Report::show_text))]
-fn shown(alloc: Global, mps: &RawMps, aux: &RawAux) -> Result<Vec<u8>, AllocError>
-    requires mps { IsRawModel mps.now }
-    requires aux { FitsModel (length mps.now.columns) (length mps.now.rows) aux.now }
-    ensures { IfOk result (λ text. text.items ≡ show_text mps.now aux.now (program_of mps.now aux.now)) }
+fn shown(alloc: Global, texts: &Texts) -> Result<Vec<u8>, AllocError>
+    requires { AreWithin texts.now }
+    ensures { IfOk result (λ text.
+        text.items ≡ show_text texts.now.mps texts.now.aux (program_in texts.now)) }
 {
-    let model = build(alloc, mps, aux)?;
-    let follower = write_aux(alloc, aux)?;
-    let mut text = write_mps(alloc, mps)?;
+    let model = build(alloc, &texts.mps, &texts.aux)?;
+    let follower = write_aux(alloc, &texts.aux)?;
+    let mut text = write_mps(alloc, &texts.mps)?;
     text.extend_from_slice(follower.as_slice())?;
     push_links(&mut text, model.links())?;
     Ok(text)

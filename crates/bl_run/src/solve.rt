@@ -1,28 +1,29 @@
 //! The command `solve`.
 
-ghost use Rattle.std.specs.Prelude.{◌≡◌, ◌*ℤ◌, length, IfOk, IfErr};
+ghost use Rattle.std.specs.Prelude.{◌≡◌, length, IfOk, IfErr};
 ghost use Rattle.std.specs.Arc.{arc_value};
-ghost use Rattle.bl_terms.specs.Programs.{InBox, follower_at, columns as column_count};
-ghost use Rattle.bl_raw.specs.Raw.{IsRawModel, FitsModel};
-ghost use Rattle.bl_model.specs.Build.{program_of};
+ghost use Rattle.bl_terms.specs.Programs.{columns as column_count};
 ghost use Rattle.bl_follower.specs.Exhausted.{IsExhausted};
 ghost use Rattle.bl_team.specs.Answers.{IsOutcomeFor};
-ghost use Rattle.bl_run.specs.Report.{Answers, statement_of};
+ghost use Rattle.bl_cert_terms.specs.Certificates.{StatementHolds};
+ghost use Rattle.bl_cert_book.specs.BookCertificates.{stated_by};
 ghost use Rattle.bl_run.specs.Endings.{FollowerSpent};
 ghost use Rattle.bl_run.specs.Solve.{settings_of};
 ghost use Rattle.bl_run.specs.Steps.{failure_ending, result_ending, IsReport, IsReportOf, FailsToSolve, Ends};
-ghost use Rattle.bl_run.specs.Steps.{AreBudgets, IsDefaultUpper, solve_asked};
+ghost use Rattle.bl_run.specs.Steps.{AreBudgets, IsDefaultUpper, asked_by, AreWithin, program_in};
+ghost use Rattle.bl_words.specs.declared.commands.Command.TheVariants as commands;
 
-use crate::read::{read_aux, read_mps};
-use crate::report::{INFEASIBLE, optimal_report};
+use crate::cert::{asked_text, write_asked};
+use crate::read::{Texts, read_texts};
+use crate::report::{INFEASIBLE, follower_value, optimal_report};
 use crate::status::{Answer, Failure};
 use bl_core::{Book, Ended, Outcome};
 use bl_follower::Spent;
 use bl_model::{Bilevel, build};
 use bl_outer::{Shelf, Sink};
-use bl_raw::{RawAux, RawColumn, RawMps};
+use bl_raw::RawColumn;
 use bl_team::{Settings, solve_alone};
-use bl_words::SolveWords;
+use bl_words::ModelWords;
 use std::alloc::{AllocError, Global};
 use std::sync::Arc;
 
@@ -33,64 +34,74 @@ struct Report {
     text: Vec<u8>,
 }
 
-/// Reads both texts, solves, and prints the report.
+/// The report of a search that is done, and the text of its certificate where one is asked for.
+#[derive(Drop)]
+struct Solved {
+    report: Report,
+    cert: Vec<u8>,
+}
+
+/// Reads both texts, solves, writes the certificate where one is asked for, and prints the report.
 pub(crate) fn solve<'a, F: Shelf, O: Sink>(
     alloc: Global,
-    words: SolveWords<'a>,
+    words: &ModelWords<'a>,
     files: &mut F,
     out: &mut O,
 ) -> Result<Answer, Failure<'a>>
-    requires upper { IsDefaultUpper words.default_upper }
-    requires budgets { AreBudgets words.nodes words.follower_nodes }
-    ensures { Ends (solve_asked words.entry)
+    requires upper { IsDefaultUpper words.now.default_upper }
+    requires budgets { AreBudgets words.now.nodes words.now.follower_nodes }
+    ensures { Ends (asked_by commands.Solve words.now)
         (record { files = F.state files.old; out = O.state out.old })
         (record { files = F.state files.new; out = O.state out.new })
         (result_ending result) }
 {
-    let mps = read_mps(alloc, files, words.mps, words.default_upper)?;
-    let aux = read_aux(alloc, files, words.aux, &mps)?;
-    let report = solve_model(alloc, words, &mps, &aux)?;
-    out.put(&report.text)?;
-    Ok(report.answer)
+    let texts = read_texts(alloc, words, files)?;
+    let solved = solve_texts(alloc, words, &texts)?;
+    write_asked(words, files, &solved.cert)?;
+    out.put(&solved.report.text)?;
+    Ok(solved.report.answer)
 }
 
-/// Builds the program, searches it, and writes the report.
-fn solve_model<'a>(
+/// Searches the program that the texts make, and writes what is to be printed.
+fn solve_texts<'a>(
     alloc: Global,
-    words: SolveWords<'a>,
-    mps: &RawMps,
-    aux: &RawAux,
-) -> Result<Report, Failure<'a>>
-    requires mps { IsRawModel mps.now }
-    requires aux { FitsModel (length mps.now.columns) (length mps.now.rows) aux.now }
-    requires budgets { AreBudgets words.nodes words.follower_nodes }
-    ensures report { IfOk result (λ report. IsReport mps.now.columns (program_of mps.now aux.now)
-        (solve_asked words.entry) report.answer report.text.items) }
-    ensures failed { IfErr result (FailsToSolve (program_of mps.now aux.now) (solve_asked words.entry)) }
+    words: &ModelWords<'a>,
+    texts: &Texts,
+) -> Result<Solved, Failure<'a>>
+    requires within { AreWithin texts.now }
+    requires budgets { AreBudgets words.now.nodes words.now.follower_nodes }
+    ensures report { IfOk result (λ solved. IsReport texts.now.mps.columns (program_in texts.now)
+        (asked_by commands.Solve words.now) solved.report.answer solved.report.text.items solved.cert.items) }
+    ensures failed { IfErr result (FailsToSolve (program_in texts.now) (asked_by commands.Solve words.now)) }
 {
-    let model = shared_model(alloc, mps, aux)?;
+    let model = shared_model(alloc, texts)?;
     let outcome = solve_alone(alloc, model, settings_of(words))?;
-    told_of(alloc, words, mps.columns.as_slice(), &outcome)
+    told_of(alloc, words, texts.mps.columns.as_slice(), &outcome)
 }
 
 /// What is told of a search that has ended: the report of its answer, or which budget was spent.
 fn told_of<'a>(
     alloc: Global,
-    words: SolveWords<'a>,
+    words: &ModelWords<'a>,
     columns: &[RawColumn],
     outcome: &Outcome,
-) -> Result<Report, Failure<'a>>
+) -> Result<Solved, Failure<'a>>
     requires columns { length columns.now ≡ column_count outcome.now.book.ledger.book.program }
-    requires found { IsOutcomeFor outcome.now.book.ledger.book.program 1 (settings_of (solve_asked words)) outcome.now }
-    ensures report { IfOk result (λ report. IsReport columns.now outcome.now.book.ledger.book.program
-        (solve_asked words.entry) report.answer report.text.items) }
+    requires found { IsOutcomeFor outcome.now.book.ledger.book.program 1
+        (settings_of (asked_by commands.Solve words.now)) outcome.now }
+    ensures report { IfOk result (λ solved. IsReport columns.now outcome.now.book.ledger.book.program
+        (asked_by commands.Solve words.now) solved.report.answer solved.report.text.items solved.cert.items) }
     ensures failed { IfErr result
-        (FailsToSolve outcome.now.book.ledger.book.program (solve_asked words.entry)) }
+        (FailsToSolve outcome.now.book.ledger.book.program (asked_by commands.Solve words.now)) }
 {
     let book = outcome.book();
     let _limit = book.limit();
     match outcome.end() {
-        Ended::Done => Ok(report_of(alloc, columns, book)?),
+        Ended::Done => {
+            let report = report_of(alloc, columns, book)?;
+            let cert = asked_text(alloc, words, book)?;
+            Ok(Solved { report, cert })
+        }
         Ended::Nodes { .. } => Err(Failure::NodesSpent {
             budget: words.nodes,
             made: book.made(),
@@ -100,23 +111,18 @@ fn told_of<'a>(
 }
 
 /// The program that the texts make.
-fn shared_model(
-    alloc: Global,
-    mps: &RawMps,
-    aux: &RawAux,
-) -> Result<Arc<Bilevel, Global>, AllocError>
-    requires mps { IsRawModel mps.now }
-    requires aux { FitsModel (length mps.now.columns) (length mps.now.rows) aux.now }
-    ensures { IfOk result (λ model. arc_value model ≡ program_of mps.now aux.now) }
+fn shared_model(alloc: Global, texts: &Texts) -> Result<Arc<Bilevel, Global>, AllocError>
+    requires { AreWithin texts.now }
+    ensures { IfOk result (λ model. arc_value model ≡ program_in texts.now) }
 {
-    let model = build(alloc, mps, aux)?;
+    let model = build(alloc, &texts.mps, &texts.aux)?;
     let model = Arc::new(alloc, model)?;
     Ok(model)
 }
 
 /// The search that is asked for, with one worker.
-fn settings_of(words: SolveWords<'_>) -> Settings
-    ensures { result ≡ settings_of (solve_asked words.entry) }
+fn settings_of(words: &ModelWords<'_>) -> Settings
+    ensures { result ≡ settings_of (asked_by commands.Solve words.now) }
 {
     Settings {
         workers: 1,
@@ -137,19 +143,11 @@ fn follower_spent<'a>(alloc: Global, spent: &Spent) -> Result<Failure<'a>, Alloc
     Ok(Failure::FollowerSpent { budget, made, link })
 }
 
-/// The follower's value of a point of the box, in the sense of the auxiliary text.
-fn follower_value(model: &Bilevel, point: &[i64]) -> i64
-    requires { InBox model.now point.now }
-    ensures { result ≡ follower_at model.now point.now *ℤ model.now.sense }
-{
-    model.follower_of(point) * model.sense()
-}
-
 /// The report of the best incumbent of a search that is done.
 fn report_of(alloc: Global, columns: &[RawColumn], book: &Book) -> Result<Report, AllocError>
     requires columns { length columns.now ≡ column_count book.now.ledger.book.program }
-    requires right { Answers book.now.ledger.book.program
-        (statement_of book.now.ledger.book.program book.now.ledger.book.best) }
+    requires right { StatementHolds book.now.ledger.book.program
+        (stated_by book.now.ledger.book.program book.now.ledger.book.best) }
     ensures { IfOk result (λ report. IsReportOf columns.now book.now.ledger.book.program
         book.now.ledger.book.best report.answer report.text.items) }
 {

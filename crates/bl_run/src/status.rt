@@ -1,9 +1,10 @@
 //! How the program ends.
 
-ghost use Rattle.std.specs.Prelude.{◌++◌, codes};
+ghost use Rattle.std.specs.Prelude.{◌≡◌, ◌++◌, codes};
 ghost use Rattle.std.specs.Fmt.{signed_decimal};
 ghost use Rattle.std.specs.List.{flat_map};
-ghost use Rattle.bl_run.specs.Steps.{Puts, fault_line, rule_line, nodes_line, follower_head, link_text};
+ghost use Rattle.bl_run.specs.Endings.{AtLine};
+ghost use Rattle.bl_run.specs.Steps.{Puts, place_of, fault_line, rule_line, nodes_line, follower_head, link_text};
 
 use crate::fault::{Place, TextFault};
 use bl_outer::{Sink, SinkFail};
@@ -20,6 +21,7 @@ pub(crate) enum Answer {
     Optimal,
     Infeasible,
     Shown,
+    Accepted,
 }
 
 impl Answer {
@@ -31,14 +33,16 @@ impl Answer {
         ensures { result.0 ≡ status_of (answer_ending self) }
     {
         Status(match self {
-            Answer::Optimal | Answer::Shown => 0,
+            Answer::Optimal | Answer::Shown | Answer::Accepted => 0,
             Answer::Infeasible => 1,
         })
     }
 }
 
-/// Why a command has no answer. A file is named where one has to do with it. Of a spent budget it is told how many
-/// nodes it allows, how many were made and, where it is the follower's, at which link.
+/// Why a command has no answer. A file is named where one has to do with it: `FileFault` has the one that couldn't be
+/// written, `WriteFault` is of the output. Of a spent budget it is told how many nodes it allows, how many were made
+/// and, where it is the follower's, at which link; of a certificate that isn't accepted, at which line and by which
+/// rule.
 #[derive(Debug, Drop)]
 pub(crate) enum Failure<'a> {
     Words,
@@ -53,8 +57,10 @@ pub(crate) enum Failure<'a> {
         link: Vec<i64>,
     },
     ReadFault(&'a str),
+    FileFault(&'a str),
     WriteFault,
     Memory,
+    NotAccepted(&'a str, u64, &'static str),
     Missing(&'a str),
 }
 
@@ -95,8 +101,9 @@ impl Failure<'_> {
             Failure::NodesSpent { .. } => 4,
             Failure::FollowerSpent { .. } => 5,
             Failure::ReadFault(_) => 6,
-            Failure::WriteFault => 7,
+            Failure::FileFault(_) | Failure::WriteFault => 7,
             Failure::Memory => 8,
+            Failure::NotAccepted(_, _, _) => 9,
             Failure::Missing(_) => 10,
         })
     }
@@ -116,10 +123,22 @@ impl Failure<'_> {
                 err,
                 &[b"mibs: read fault: ", file.as_bytes(), b"\n"],
             ),
-            Failure::WriteFault => put_all(err, &[b"mibs: write fault\n"]),
+            Failure::FileFault(_) | Failure::WriteFault => put_all(err, &[b"mibs: write fault\n"]),
             Failure::Memory => put_all(err, &[b"mibs: want of memory\n"]),
+            Failure::NotAccepted(file, line, rule) => tell_fault(err, file, at_line(*line, rule)),
             Failure::Missing(file) => put_all(err, &[b"mibs: ", file.as_bytes(), b": missing\n"]),
         };
+    }
+}
+
+/// The fault of a certificate.
+fn at_line(line: u64, rule: &'static str) -> TextFault
+    ensures place { place_of result.place ≡ AtLine line }
+    ensures rule { result.rule.now ≡ rule.entry.now }
+{
+    TextFault {
+        place: Place::Line(line),
+        rule,
     }
 }
 

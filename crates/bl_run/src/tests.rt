@@ -2,19 +2,23 @@
 
 mod texts;
 
-use crate::{Status, out_of_memory, run, run_alone, run_show};
+use crate::{Status, out_of_memory, run, run_alone, run_check, run_show};
 use bl_outer::{MemShelf, MemSink, NoGate};
 use std::alloc::{AllocError, Global};
 use std::sync::Wait;
 use std::test::Fail;
 use std::thread::Threads;
 use texts::{
-    ALONE, CHOICE, CUT, FIXED, FIXED_APART, GREATEST, HALF, INTERDICTION, INTERDICTION_AUX,
-    MOORE_BARD, MOORE_BARD_AUX, MOORE_BARD_SHOWN, OPEN, RAMP, RANGE, RANGE_SHOWN, TIES, TIES_AUX,
-    TOLL, TOLL_AUX, UNWILLING, WIDE,
+    ALONE, CHOICE, CUT, CUT_CERT, FIXED, FIXED_APART, GREATEST, HALF, INTERDICTION,
+    INTERDICTION_AUX, MOORE_BARD, MOORE_BARD_AUX, MOORE_BARD_SHOWN, OPEN, RAMP, RANGE, RANGE_SHOWN,
+    TIES, TIES_AUX, TOLL, TOLL_AUX, TURNED_CERT, UNPROVED_CERT, UNWILLING, UNWILLING_CERT, WIDE,
 };
 
 const NO_FOLLOWER: &str = "N 0\nM 0\nOS 1\n";
+
+const UNWILLING_AUX: &str = "N 1\nM 0\nLC 1\nLO 1\nOS 1\n";
+
+const CUT_AUX: &str = "N 1\nM 1\nLC 1\nLR 0\nLO 1\n";
 
 /// The words of a line, where blanks stand between them, the two texts, and what a run over them tells: its status, and
 /// behind it what it printed on both outputs. Where that ends in a blank, it is only the beginning, since several
@@ -87,7 +91,7 @@ const ANSWERS: [Case; 20] = [
     (
         "solve --nodes=1 m.mps m.aux",
         UNWILLING,
-        "N 1\nM 0\nLC 1\nLO 1\nOS 1\n",
+        UNWILLING_AUX,
         "1\ninfeasible\n",
     ),
     (
@@ -123,7 +127,7 @@ const ANSWERS: [Case; 20] = [
     (
         "solve m.mps m.aux --nodes 1",
         CUT,
-        "N 1\nM 1\nLC 1\nLR 0\nLO 1\n",
+        CUT_AUX,
         "0\noptimal\nvalue -1\nfollower 0\ncolumn X 1\ncolumn Y 0\n",
     ),
     (
@@ -147,7 +151,7 @@ const ANSWERS: [Case; 20] = [
     ),
 ];
 
-const REFUSALS: [Case; 11] = [
+const REFUSALS: [Case; 15] = [
     (
         "solve m.mps",
         ALONE,
@@ -162,6 +166,24 @@ const REFUSALS: [Case; 11] = [
     ),
     (
         "show m.mps m.aux --nodes 5",
+        ALONE,
+        NO_FOLLOWER,
+        "2\nmibs: words not understood\n",
+    ),
+    (
+        "solve m.mps m.aux --cert m.mps",
+        ALONE,
+        NO_FOLLOWER,
+        "2\nmibs: words not understood\n",
+    ),
+    (
+        "check m.mps m.aux",
+        ALONE,
+        NO_FOLLOWER,
+        "2\nmibs: words not understood\n",
+    ),
+    (
+        "check m.mps m.aux --cert m.cert",
         ALONE,
         NO_FOLLOWER,
         "2\nmibs: words not understood\n",
@@ -213,6 +235,63 @@ const REFUSALS: [Case; 11] = [
         ALONE,
         NO_FOLLOWER,
         "3\nmibs: m.aux: line 1: BadSection\n",
+    ),
+    (
+        "check m.mps m.aux other.cert",
+        ALONE,
+        NO_FOLLOWER,
+        "10\nmibs: other.cert: missing\n",
+    ),
+];
+
+/// The two texts of a model, the text in `m.cert`, and what `check` tells of it.
+const CHECKS: [(&str, &str, &str, &str); 5] = [
+    (
+        UNWILLING,
+        UNWILLING_AUX,
+        UNWILLING_CERT,
+        "0\naccepted\ninfeasible\n",
+    ),
+    (
+        CUT,
+        CUT_AUX,
+        CUT_CERT,
+        "0\naccepted\noptimal\nvalue -1\nfollower 0\ncolumn X 1\ncolumn Y 0\n",
+    ),
+    (
+        UNWILLING,
+        UNWILLING_AUX,
+        UNPROVED_CERT,
+        "9\nmibs: m.cert: line 10: Proof\n",
+    ),
+    (
+        UNWILLING,
+        UNWILLING_AUX,
+        TURNED_CERT,
+        "9\nmibs: m.cert: line 2: Sense\n",
+    ),
+    (
+        UNWILLING,
+        UNWILLING_AUX,
+        "mibs-certificate 2",
+        "9\nmibs: m.cert: line 1: Syntax\n",
+    ),
+];
+
+/// The two texts of a model with one best point at most, what `solve` tells of it, and what `check` tells of the
+/// certificate of that answer.
+const CERTIFIED: [(&str, &str, &str, &str); 2] = [
+    (
+        UNWILLING,
+        UNWILLING_AUX,
+        "1\ninfeasible\n",
+        "0\naccepted\ninfeasible\n",
+    ),
+    (
+        TIES,
+        TIES_AUX,
+        "0\noptimal\nvalue -7\nfollower 3\ncolumn ORDER 3\ncolumn NORTH 2\ncolumn SOUTH 1\n",
+        "0\naccepted\noptimal\nvalue -7\nfollower 3\ncolumn ORDER 3\ncolumn NORTH 2\ncolumn SOUTH 1\n",
     ),
 ];
 
@@ -282,6 +361,18 @@ fn told_alone(alloc: Global, words: &[String], files: &mut MemShelf) -> Result<S
     let mut out = MemSink::new(alloc, &[])?;
     let mut err = MemSink::new(alloc, &[])?;
     let status = run_alone(alloc, words, files, &mut out, &mut err);
+    told(alloc, status, &out, &err)
+}
+
+/// What `check` alone tells of the text in `m.cert`.
+fn told_by_check(
+    alloc: Global,
+    words: &[String],
+    files: &mut MemShelf,
+) -> Result<String, AllocError> {
+    let mut out = MemSink::new(alloc, &[])?;
+    let mut err = MemSink::new(alloc, &[])?;
+    let status = run_check(alloc, words, files, &mut out, &mut err);
     told(alloc, status, &out, &err)
 }
 
@@ -357,5 +448,68 @@ fn other_commands_are_unknown_to_show(rt: HostRuntime) -> Result<(), Fail> {
     let status = out_of_memory(&mut err);
     assert_eq!(rt; status, Status(8));
     assert_eq!(rt; err.bytes(), b"mibs: want of memory\n".as_slice());
+    Ok(())
+}
+
+#[test]
+fn checks_certificates(rt: HostRuntime) -> Result<(), Fail> {
+    let words = words_of(rt.alloc(), "check m.mps m.aux m.cert")?;
+    for (mps, aux, cert, want) in CHECKS {
+        let mut files = shelf(rt.alloc(), mps, aux, &[])?;
+        files.set("m.cert", cert.as_bytes())?;
+        let told = told_by_check(rt.alloc(), &words, &mut files)?;
+        assert!(rt; is_told(&told, want), "{told:?} is {want:?}");
+    }
+    Ok(())
+}
+
+#[test]
+fn other_commands_are_unknown_to_check(rt: HostRuntime) -> Result<(), Fail> {
+    for line in ["solve m.mps m.aux", "show m.mps m.aux"] {
+        let words = words_of(rt.alloc(), line)?;
+        let mut files = shelf(rt.alloc(), RANGE, NO_FOLLOWER, &[])?;
+        let told = told_by_check(rt.alloc(), &words, &mut files)?;
+        assert_eq!(rt; told.as_str(), "2\nmibs: words not understood\n");
+    }
+    Ok(())
+}
+
+#[test]
+fn writes_certificates_that_are_accepted(rt: HostRuntime) -> Result<(), Fail> {
+    let solve = words_of(rt.alloc(), "solve m.mps m.aux --cert m.cert")?;
+    let check = words_of(rt.alloc(), "check m.mps m.aux m.cert")?;
+    for (mps, aux, answer, accepted) in CERTIFIED {
+        let mut files = shelf(rt.alloc(), mps, aux, &[])?;
+        let told = told_alone(rt.alloc(), &solve, &mut files)?;
+        assert!(rt; is_told(&told, answer), "{told:?} is {answer:?}");
+        let told = told_alone(rt.alloc(), &check, &mut files)?;
+        assert!(rt; is_told(&told, accepted), "{told:?} is {accepted:?}");
+    }
+    Ok(())
+}
+
+/// The calls of the shelf are numbered from 1: three to read each text, and then `begin`, `append` and `finish`.
+#[test]
+fn prints_nothing_where_the_certificate_is_not_written(rt: HostRuntime) -> Result<(), Fail> {
+    let words = words_of(rt.alloc(), "solve m.mps m.aux --cert m.cert")?;
+    for call in 7..10 {
+        let mut files = shelf(rt.alloc(), UNWILLING, UNWILLING_AUX, &[call])?;
+        let told = told_alone(rt.alloc(), &words, &mut files)?;
+        assert_eq!(rt; told.as_str(), "7\nmibs: write fault\n");
+        assert_eq!(rt; files.bytes("m.cert").is_some(), call != 7);
+    }
+    Ok(())
+}
+
+#[test]
+fn writes_no_certificate_where_a_budget_is_spent(rt: HostRuntime) -> Result<(), Fail> {
+    let words = words_of(rt.alloc(), "solve m.mps m.aux --nodes 1 --cert m.cert")?;
+    let mut files = shelf(rt.alloc(), MOORE_BARD, MOORE_BARD_AUX, &[])?;
+    let told = told_alone(rt.alloc(), &words, &mut files)?;
+    assert_eq!(rt;
+        told.as_str(),
+        "4\nmibs: node budget 1 spent with 1 nodes\n"
+    );
+    assert!(rt; files.bytes("m.cert").is_none());
     Ok(())
 }

@@ -10,9 +10,9 @@ use Rattle.std.proofs.lemmas.List.Sums.{passes_at_first}
 use Rattle.std.proofs.lemmas.Slice.Eq.{bytes_eq-Decides}
 use Rattle.std.proofs.lemmas.Bool.{cases_lt, eqb-true}
 use Rattle.bl_words.specs.declared.commands.Command.{Command}
-use Rattle.bl_words.specs.declared.commands.Command.TheVariants.{Solve, Show}
+use Rattle.bl_words.specs.declared.commands.Command.TheVariants.{Solve, Show, Check}
 use Rattle.bl_words.specs.declared.commands.Choice.{Choice}
-use Rattle.bl_words.specs.declared.commands.Choice.TheVariants.{DefaultUpper, Nodes, FollowerNodes}
+use Rattle.bl_words.specs.declared.commands.Choice.TheVariants.{DefaultUpper, Nodes, FollowerNodes, Cert}
 use Rattle.bl_words.specs.Commands.{word_of, takes, is_plain}
 use Rattle.bl_words.specs.Items.{Item, IsSpelled, AreSpelled}
 use Rattle.bl_words.specs.Steps.{Step, is_equals, choice_by, choice_of, taken, texted, joined, named, step, walk}
@@ -40,6 +40,12 @@ step-word Solve FollowerNodes h = refl
 step-word Show DefaultUpper h = refl
 step-word Show Nodes h = absurd cc
 step-word Show FollowerNodes h = absurd cc
+step-word Solve Cert h = refl
+step-word Show Cert h = absurd cc
+step-word Check DefaultUpper h = refl
+step-word Check Nodes h = absurd cc
+step-word Check FollowerNodes h = absurd cc
+step-word Check Cert h = absurd cc
 
 step-value : (command : Command) (choice : Choice) (text : List ℕ) → is_plain text ≡ true
     → step command (Some choice) text ≡ Some (Some (item_of (Some choice) text), None)
@@ -56,6 +62,12 @@ step-joined Solve FollowerNodes text t h = texted-plain (Some FollowerNodes) tex
 step-joined Show DefaultUpper text t h = texted-plain (Some DefaultUpper) text h
 step-joined Show Nodes text t h = absurd cc
 step-joined Show FollowerNodes text t h = absurd cc
+step-joined Solve Cert text t h = texted-plain (Some Cert) text h
+step-joined Show Cert text t h = absurd cc
+step-joined Check DefaultUpper text t h = texted-plain (Some DefaultUpper) text h
+step-joined Check Nodes text t h = absurd cc
+step-joined Check FollowerNodes text t h = absurd cc
+step-joined Check Cert text t h = absurd cc
 
 walk-step : (command : Command) (items : List Item) (pending : Option Choice) (word : List ℕ) (words : List (List ℕ))
     (added : Option Item) (next : Option Choice) → step command pending word ≡ Some (added, next)
@@ -123,8 +135,11 @@ choice-by word choice e =
           elim (cond-choice (bytes_eq word (word_of Nodes)) Nodes _ choice f) [
             | inl h ↦ is-word word Nodes choice h
             | inr g ↦
-                is-word word FollowerNodes choice
-                (cond-some (bytes_eq word (word_of FollowerNodes)) FollowerNodes choice g)
+                elim (cond-choice (bytes_eq word (word_of FollowerNodes)) FollowerNodes _ choice g) [
+                  | inl h ↦ is-word word FollowerNodes choice h
+                  | inr i ↦
+                      is-word word Cert choice (cond-some (bytes_eq word (word_of Cert)) Cert choice i)
+                ]
           ]
     ]
 

@@ -1,13 +1,13 @@
 -- Internal. The items as they are read word by word.
-use Rattle.std.specs.Prelude.{ℕ, Bool, ◌==◌, List, [], ◌∷◌, ◌++◌, Option, None, Some, if◌then◌else◌, codes}
+use Rattle.std.specs.Prelude.{ℕ, ◌≡◌, drop, Bool, ◌==◌, List, [], ◌∷◌, ◌++◌, Option, None, Some, if◌then◌else◌, codes}
 use Rattle.std.specs.List.{before_first, after_first}
 use Rattle.std.specs.Str.{bytes_eq}
 use Rattle.std.specs.Option.{option_and_then, option_to_list}
 use Rattle.bl_words.specs.declared.commands.Command.{Command}
 use Rattle.bl_words.specs.declared.commands.Choice.{Choice}
-use Rattle.bl_words.specs.declared.commands.Choice.TheVariants.{DefaultUpper, Nodes, FollowerNodes}
+use Rattle.bl_words.specs.declared.commands.Choice.TheVariants.{DefaultUpper, Nodes, FollowerNodes, Cert}
 use Rattle.bl_words.specs.Commands.{takes, is_plain}
-use Rattle.bl_words.specs.Items.{Item}
+use Rattle.bl_words.specs.Items.{Item, texts_of, own_files, cert_values, HasCert}
 
 -- what a word adds, and the option that waits for its value
 abbrev pub Step : Type 0
@@ -21,7 +21,8 @@ abbrev pub choice_by : List ℕ → Option Choice
 choice_by word =
     if bytes_eq word (codes "--default-upper") then Some DefaultUpper
     else (if bytes_eq word (codes "--nodes") then Some Nodes
-    else (if bytes_eq word (codes "--follower-nodes") then Some FollowerNodes else None))
+    else (if bytes_eq word (codes "--follower-nodes") then Some FollowerNodes
+    else (if bytes_eq word (codes "--cert") then Some Cert else None)))
 
 abbrev pub taken : Command → Choice → Option Choice
 taken command choice = if takes command choice then Some choice else None
@@ -54,7 +55,8 @@ walk command items pending [] = ended items pending
 walk command items pending (word ∷ words) =
     option_and_then (λ s. walk command (items ++ option_to_list s.0) s.1 words) (step command pending word)
 
--- two different texts, and nothing else
-abbrev pub two_texts : List (List ℕ) → Option (List ℕ × List ℕ)
-two_texts (first ∷ second ∷ []) = if bytes_eq first second then None else Some (first, second)
-two_texts _ = None
+-- the certificate's file behind the two files, or by its option, as the command may name it
+pub record NamesCert (command : Command) (items : List Item) (cert : Option (List ℕ)) : Type 0 where
+  pub files : drop 2 (texts_of None items) ≡ drop 2 (own_files command [] [] cert)
+  pub values : texts_of (Some Cert) items ≡ cert_values command cert
+  pub has : HasCert command cert

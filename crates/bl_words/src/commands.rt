@@ -1,5 +1,5 @@
 //! The commands and their options, each with its name.
-ghost use Rattle.std.specs.Prelude.{◌≡◌, pos};
+ghost use Rattle.std.specs.Prelude.{◌≡◌};
 ghost use Rattle.bl_words.specs.Commands.{is_plain};
 
 use bl_limits::{
@@ -9,10 +9,12 @@ use bl_limits::{
 /// A command of the program.
 #[derive(Clone, Copy, Debug, PartialEq, Eq)]
 pub enum Command {
-    /// `solve MPS AUX [--default-upper U] [--nodes N] [--follower-nodes F]`
+    /// `solve MPS AUX [--default-upper U] [--nodes N] [--follower-nodes F] [--cert FILE]`
     Solve,
     /// `show MPS AUX [--default-upper U]`
     Show,
+    /// `check MPS AUX CERT [--default-upper U]`
+    Check,
 }
 
 impl Command {
@@ -25,6 +27,7 @@ impl Command {
         match self {
             Command::Solve => "solve",
             Command::Show => "show",
+            Command::Check => "check",
         }
     }
 
@@ -33,8 +36,8 @@ impl Command {
         ensures { result ≡ takes self choice }
     {
         match (self, choice) {
-            (Command::Solve, _) | (Command::Show, Choice::DefaultUpper) => true,
-            (Command::Show, Choice::Nodes | Choice::FollowerNodes) => false,
+            (Command::Solve, _) | (Command::Show | Command::Check, Choice::DefaultUpper) => true,
+            (Command::Show | Command::Check, _) => false,
         }
     }
 }
@@ -48,40 +51,52 @@ pub enum Choice {
     Nodes,
     /// `--follower-nodes F`: the budget of nodes of each follower's tree.
     FollowerNodes,
+    /// `--cert FILE`: the file that the certificate is written to.
+    Cert,
 }
 
-impl Choice {
-    ghost use Rattle.bl_words.specs.Commands.{least, greatest, usual};
-
-    /// The least number that the option takes.
-    pub(crate) fn least(self) -> i64
-        ensures { result ≡ pos (least self) }
-    {
-        match self {
-            Choice::DefaultUpper => 0,
-            Choice::Nodes | Choice::FollowerNodes => 1,
-        }
-    }
-
-    /// The greatest number that the option takes.
-    pub(crate) fn greatest(self) -> i64
-        ensures { result ≡ pos (greatest self) }
-    {
-        match self {
-            Choice::DefaultUpper => MAX_NUMBER as i64,
-            Choice::Nodes => i64::from(MAX_NODES),
-            Choice::FollowerNodes => i64::from(MAX_FOLLOWER_NODES),
-        }
-    }
-
+/// The numbers that an option takes.
+#[derive(Clone, Copy)]
+pub struct Limits {
+    pub least: u32,
+    pub greatest: u32,
     /// The number without the option.
-    pub(crate) fn usual(self) -> i64
-        ensures { result ≡ usual self }
+    pub usual: u32,
+}
+
+impl Limits {
+    ghost use Rattle.bl_words.specs.Commands.{upper_limits, node_limits, follower_limits};
+
+    /// Those of the upper bound of an integer column that no bound line names.
+    pub(crate) fn upper() -> Limits
+        ensures { result ≡ upper_limits }
     {
-        match self {
-            Choice::DefaultUpper => DEFAULT_UPPER,
-            Choice::Nodes => i64::from(DEFAULT_NODES),
-            Choice::FollowerNodes => i64::from(DEFAULT_FOLLOWER_NODES),
+        Limits {
+            least: 0,
+            greatest: MAX_NUMBER as u32,
+            usual: DEFAULT_UPPER as u32,
+        }
+    }
+
+    /// Those of the budget of nodes of the branch-and-bound tree.
+    pub(crate) fn nodes() -> Limits
+        ensures { result ≡ node_limits }
+    {
+        Limits {
+            least: 1,
+            greatest: MAX_NODES,
+            usual: DEFAULT_NODES,
+        }
+    }
+
+    /// Those of the budget of nodes of each follower's tree.
+    pub(crate) fn follower_nodes() -> Limits
+        ensures { result ≡ follower_limits }
+    {
+        Limits {
+            least: 1,
+            greatest: MAX_FOLLOWER_NODES,
+            usual: DEFAULT_FOLLOWER_NODES,
         }
     }
 }

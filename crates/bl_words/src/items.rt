@@ -34,6 +34,8 @@ fn choice_by(word: &str) -> Option<Choice>
         Some(Choice::Nodes)
     } else if word == "--follower-nodes" {
         Some(Choice::FollowerNodes)
+    } else if word == "--cert" {
+        Some(Choice::Cert)
     } else {
         None
     }
@@ -136,6 +138,7 @@ fn is_same(choice: Option<Choice>, other: Option<Choice>) -> bool
         (Some(Choice::DefaultUpper), Some(Choice::DefaultUpper)) => true,
         (Some(Choice::Nodes), Some(Choice::Nodes)) => true,
         (Some(Choice::FollowerNodes), Some(Choice::FollowerNodes)) => true,
+        (Some(Choice::Cert), Some(Choice::Cert)) => true,
         _ => false,
     }
 }

@@ -9,7 +9,7 @@ mod items;
 mod words;
 
 pub use commands::{Choice, Command};
-pub use words::{ShowWords, SolveWords, show_words, solve_words};
+pub use words::{ModelWords, model_words};
 
 #[cfg(test)]
 mod tests;

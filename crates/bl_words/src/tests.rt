@@ -3,23 +3,31 @@ use super::*;
 use std::alloc::{AllocError, Global};
 use std::test::Fail;
 
-/// What the words say, as `solve MPS AUX U N F` or `show MPS AUX U`.
+/// What the words say, as `COMMAND MPS AUX CERT U N F`, with `-` where no certificate is named.
 fn said(alloc: Global, words: &[String]) -> Result<Option<String>, AllocError> {
-    if let Some(read) = solve_words(alloc, words)? {
-        let said = solve_text(alloc, read)?;
-        return Ok(Some(said));
-    }
-    if let Some(read) = show_words(alloc, words)? {
-        let said = format!(in alloc; "show {} {} {}", read.mps, read.aux, read.default_upper)?;
-        return Ok(Some(said));
+    for command in [Command::Solve, Command::Show, Command::Check] {
+        if let Some(read) = model_words(alloc, command, words)? {
+            let said = text_of(alloc, command, read)?;
+            return Ok(Some(said));
+        }
     }
     Ok(None)
 }
 
-fn solve_text(alloc: Global, read: SolveWords<'_>) -> Result<String, AllocError> {
+fn text_of(alloc: Global, command: Command, read: ModelWords<'_>) -> Result<String, AllocError> {
+    let cert = match read.cert {
+        Some(cert) => cert,
+        None => "-",
+    };
     format!(in alloc;
-        "solve {} {} {} {} {}",
-        read.mps, read.aux, read.default_upper, read.nodes, read.follower_nodes
+        "{} {} {} {} {} {} {}",
+        command.name(),
+        read.mps,
+        read.aux,
+        cert,
+        read.default_upper,
+        read.nodes,
+        read.follower_nodes
     )
 }
 
@@ -35,29 +43,43 @@ fn said_of(alloc: Global, line: &str) -> Result<Option<String>, AllocError> {
 #[test]
 fn understood_words(rt: HostRuntime) -> Result<(), Fail> {
     let rows = [
-        ("solve|a|b", "solve a b 1 200000 50000"),
-        ("show|a|b", "show a b 1"),
-        ("solve|--default-upper|9|a|b", "solve a b 9 200000 50000"),
-        ("solve|a|--default-upper=9|b", "solve a b 9 200000 50000"),
-        ("solve|a|b|--nodes|1", "solve a b 1 1 50000"),
-        ("solve|--nodes=2000000|a|b", "solve a b 1 2000000 50000"),
-        ("solve|a|--follower-nodes|1|b", "solve a b 1 200000 1"),
+        ("solve|a|b", "solve a b - 1 200000 50000"),
+        ("show|a|b", "show a b - 1 200000 50000"),
+        ("check|a|b|c", "check a b c 1 200000 50000"),
+        ("solve|--default-upper|9|a|b", "solve a b - 9 200000 50000"),
+        ("solve|a|--default-upper=9|b", "solve a b - 9 200000 50000"),
+        ("solve|a|b|--nodes|1", "solve a b - 1 1 50000"),
+        ("solve|--nodes=2000000|a|b", "solve a b - 1 2000000 50000"),
+        ("solve|a|--follower-nodes|1|b", "solve a b - 1 200000 1"),
         (
             "solve|a|b|--follower-nodes=2000000",
-            "solve a b 1 200000 2000000",
+            "solve a b - 1 200000 2000000",
+        ),
+        ("solve|a|b|--cert|c", "solve a b c 1 200000 50000"),
+        ("solve|--cert=c|a|b", "solve a b c 1 200000 50000"),
+        (
+            "solve|a|--nodes=5|b|--default-upper|4|--cert=c|--follower-nodes|6",
+            "solve a b c 4 5 6",
         ),
         (
-            "solve|a|--nodes=5|b|--default-upper|4|--follower-nodes|6",
-            "solve a b 4 5 6",
+            "show|m.mps|m.aux|--default-upper|0",
+            "show m.mps m.aux - 0 200000 50000",
         ),
-        ("show|m.mps|m.aux|--default-upper|0", "show m.mps m.aux 0"),
         (
             "show|m.mps|m.aux|--default-upper=10000000",
-            "show m.mps m.aux 10000000",
+            "show m.mps m.aux - 10000000 200000 50000",
         ),
-        ("solve|a=b|c=d", "solve a=b c=d 1 200000 50000"),
-        ("show|solve|show", "show solve show 1"),
-        ("show|m.mps|./m.mps", "show m.mps ./m.mps 1"),
+        (
+            "check|--default-upper|7|a|b|c",
+            "check a b c 7 200000 50000",
+        ),
+        (
+            "check|a|b|--default-upper=7|c",
+            "check a b c 7 200000 50000",
+        ),
+        ("solve|a=b|c=d", "solve a=b c=d - 1 200000 50000"),
+        ("show|solve|show", "show solve show - 1 200000 50000"),
+        ("show|m.mps|./m.mps", "show m.mps ./m.mps - 1 200000 50000"),
     ];
     for (line, want) in rows {
         let said = said_of(rt.alloc(), line)?;
@@ -121,10 +143,20 @@ fn refused_words(rt: HostRuntime) -> Result<(), Fail> {
         "show|a|b|--nodes=5",
         "show|a|b|--follower-nodes|5",
         "show|a|b|--follower-nodes=5",
-        "solve|a|b|--cert|c",
+        "solve|a|b|--cert",
+        "solve|a|b|--cert=",
+        "solve|a|b|--cert|a",
+        "solve|a|b|--cert|b",
+        "solve|a|b|--cert|c|--cert|d",
         "show|a|b|--cert|c",
+        "show|a|b|c",
         "show|a|--default-upper|b",
-        "check|a|b|c",
+        "check|a|b",
+        "check|a|b|c|d",
+        "check|a|b|a",
+        "check|a|b|b",
+        "check|a|b|--cert|c",
+        "check|a|b|c|--nodes|5",
         "gen|1|2|2",
     ] {
         let said = said_of(rt.alloc(), line)?;

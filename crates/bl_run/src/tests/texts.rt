@@ -459,3 +459,67 @@ M 0
 OS 1
 links
 ";
+
+/// That no point of `UNWILLING` is bilevel feasible. The follower's best response is Y = 0; the leader's row, which
+/// stands as -Y <= -1, and the value row Y <= 0 add up to 0 <= -1.
+pub(super) const UNWILLING_CERT: &str = "\
+mibs-certificate 2
+sense min
+states infeasible
+entries 1
+entry
+best 0 0
+proof 1
+cuts 0
+tree
+close 0 v 0 0:1 1:1
+end
+";
+
+/// The same without the value row: -Y is at least -1, which isn't above the right side.
+pub(super) const UNPROVED_CERT: &str = "\
+mibs-certificate 2
+sense min
+states infeasible
+entries 1
+entry
+best 0 0
+proof 1
+cuts 0
+tree
+close 0 v 0 0:1
+end
+";
+
+/// The same with the other sense.
+pub(super) const TURNED_CERT: &str = "\
+mibs-certificate 2
+sense max
+states infeasible
+";
+
+/// That (1, 0) is optimal for `CUT`. At (1, 1) the follower's row and the upper side of X hold with equality and add up
+/// to Y <= 1, and the follower has the cheaper response 0: so Y <= 0. The cost and twice this cut add up to -X, which is
+/// at least -1.
+pub(super) const CUT_CERT: &str = "\
+mibs-certificate 2
+sense min
+states optimal -1
+point 1 0
+entries 1
+entry 1
+best 0 0
+proof 1
+cuts 1
+cut
+box 0 1 0 1
+tight r0 u0
+inverse 1
+unit 1:1
+unit 0:1 1:1
+at 1 1
+response 0
+tree
+close 1 - 1 0 2:2
+end
+";

@@ -1,6 +1,6 @@
 use Rattle.std.proofs.lemmas.Result.{err_from_is_err_and}
 use Rattle.bl_run.specs.Words.{each_command}
-use Rattle.bl_run.proofs.StepLemmas.{no_memory, shown_ends}
+use Rattle.bl_run.proofs.StepLemmas.{no_memory, reading_ends}
 use Rattle.bl_run.proofs.top.command.Goals as goal
 
 pub returns-in_err-asked : goal.returns-in_err-asked
@@ -10,4 +10,4 @@ returns-in_err-asked g c =
 
 pub returns-in-None : goal.returns-in-None
 returns-in-None g c =
-    shown_ends _ (rw c.in-None.is at c.in_ok-asked.ensures.refused) _ _ _ c.show_command.ensures
+    reading_ends _ _ _ _ (rw c.in-None.is at c.in_ok-asked.ensures.refused) c.reading_command.ensures
