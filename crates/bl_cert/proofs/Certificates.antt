@@ -1,9 +1,8 @@
 -- The text of a finished book's certificate from its pieces.
 use Rattle.std.proofs.Common.{◌≡◌, ℕ, ◌<◌, ◌^◌, List, [], ◌∷◌, ◌++◌, length, map, pos, refl, sym, ap, ◌∙◌, subst, arith}
 use Rattle.std.proofs.Common.{append_assoc}
-use Rattle.std.specs.Prelude.{ℤ, Option, Some, None, option_map, IsSome, All, FitsSigned}
+use Rattle.std.specs.Prelude.{Some, None, option_map, IsSome}
 use Rattle.std.specs.List.{flat_map}
-use Rattle.std.specs.Int.{w64}
 use Rattle.std.proofs.lemmas.Bool.{false≢true}
 use Rattle.std.proofs.lemmas.Int.{ints}
 use Rattle.std.proofs.lemmas.List.{append-nil}
@@ -31,7 +30,7 @@ use Rattle.bl_check_terms.specs.Writing.{HasCounts}
 use Rattle.bl_check_terms.proofs.Written.{written_is_accepted}
 use Rattle.bl_cert.specs.Order.{nodes_here, IsPreorder}
 use Rattle.bl_cert.specs.Pieces.{head_lines, list_lines, tree_lines, HasFewTight, AreCounted}
-use Rattle.bl_cert.specs.Placing.{with_front, PutsNodes, CannotPlace, PutsBook}
+use Rattle.bl_cert.specs.Placing.{PutsNodes, CannotPlace, PutsBook}
 use Rattle.bl_cert.specs.Written.{IsCertificateText}
 use Rattle.bl_cert.proofs.Texts.{put-more}
 
@@ -138,7 +137,10 @@ text-of-book l text entries t kept finished are placed few spelled =
       certificate = c;
       of = of;
       spelled = whole;
-      accepted =
-          (c, subst (λ (bytes : Bytes). IsTextOf p bytes c) (sym whole)
-          (written_is_accepted p c kept.model holds counts), refl);
+      accepted = (
+        c,
+        subst (λ (bytes : Bytes). IsTextOf p bytes c) (sym whole)
+            (written_is_accepted p c kept.model holds counts),
+        refl,
+      );
     }

@@ -1,8 +1,8 @@
 -- Entries in a map by their links, and in the order of these.
-use Rattle.std.proofs.Common.{◌≡◌, ℕ, ◌<◌, Bool, true, false, List, [], ◌∷◌, ◌++◌, length, map, refl, sym, ap, ◌∙◌}
+use Rattle.std.proofs.Common.{◌≡◌, true, false, List, [], ◌∷◌, ◌++◌, map, refl, sym, ap, ◌∙◌}
 use Rattle.std.proofs.Common.{true≢false, append_assoc}
-use Rattle.std.specs.Prelude.{ℤ, Option, Some, None, is_some, cond}
-use Rattle.std.specs.BTreeMap.{insert_entry, is_at}
+use Rattle.std.specs.Prelude.{ℤ, Option, Some, is_some, cond}
+use Rattle.std.specs.BTreeMap.{insert_entry}
 use Rattle.std.specs.Cmp.Lexicographic.{slice_cmp}
 use Rattle.std.specs.List.{AllByRecursion}
 use Rattle.std.specs.List.Sorted.{IsStrictlySortedBy}
@@ -12,17 +12,13 @@ use Rattle.std.specs.declared.cmp.Ordering.{Ordering}
 use Rattle.std.specs.declared.cmp.Ordering.TheVariants.{Less, Equal, Greater}
 use Rattle.std.specs.declared.vec.Vec.{Vec}
 use Rattle.std.proofs.lemmas.Cmp.{lists_total, int_cmp_total}
-use Rattle.std.proofs.lemmas.List.{append-nil}
 use Rattle.std.proofs.lemmas.Map.Keys.{sorted_head, sorted_tail}
 use Rattle.bl_terms.specs.Trees.{BareNode, Leaf, Split}
 use Rattle.bl_fproof.specs.Entries.{Admitted}
 use Rattle.bl_leaf_terms.specs.Leaves.{ClosedLeaf}
-use Rattle.bl_book_terms.specs.Books.{Status, Ready, Claimed, Divided, Closed, Book, node_at, HasStatus}
-use Rattle.bl_core.specs.Accounts.{IsUnclosed}
 use Rattle.bl_cert_terms.specs.Certificates.{ProvedEntry}
 use Rattle.bl_cert_book.specs.Entries.{proved_entry, with_entry, with_entries, entries_of_leaf, entries_of_tree}
 use Rattle.bl_cert.specs.Entered.{AreByLink}
-use Rattle.bl_cert.specs.Order.{own_node, node_here}
 
 -- ---- the map
 
@@ -124,8 +120,10 @@ links-inserted {Z = Z} k e ((q, x) ∷ es) by-link same none =
     by Equal is none later =
         absurd (true≢false (ap (λ (o : Ordering). is_some (cond (is_eq o) (Some x) (at_link e.link es))) (sym is) ∙ none))
     by Greater is none later =
-        rw is (by-link.0,
-        later (ap (λ (o : Ordering). is_some (cond (is_eq o) (Some x) (at_link e.link es))) (sym is) ∙ none))
+        rw is (
+          by-link.0,
+          later (ap (λ (o : Ordering). is_some (cond (is_eq o) (Some x) (at_link e.link es))) (sym is) ∙ none),
+        )
 
 -- ---- the entries of nodes
 

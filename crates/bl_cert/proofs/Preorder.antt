@@ -1,8 +1,8 @@
 -- The nodes of a book one after the other, and those that are still to come.
-use Rattle.std.proofs.Common.{◌≡◌, ℕ, suc, ◌+◌, ◌*◌, ◌<◌, ◌≤◌, refl, sym, ◌∙◌, ap, subst, arith, List, [], ◌∷◌, ◌++◌}
+use Rattle.std.proofs.Common.{◌≡◌, ℕ, ◌+◌, ◌*◌, ◌<◌, refl, sym, ◌∙◌, ap, subst, arith, List, [], ◌∷◌, ◌++◌}
 use Rattle.std.proofs.Common.{length}
 use Rattle.std.proofs.Common.{append_assoc, ⊎_elim, take, drop, slice_index_or}
-use Rattle.std.specs.List.{AllByRecursion, flat_map}
+use Rattle.std.specs.List.{flat_map}
 use Rattle.std.proofs.lemmas.Bool.{cases_lt}
 use Rattle.std.proofs.lemmas.List.{append-nil, get_or_past, length-append, nil_from_length, take_more, drop_more}
 use Rattle.std.proofs.lemmas.List.{take-append-drop}
@@ -14,7 +14,7 @@ use Rattle.bl_leaf_terms.specs.Leaves.{ClosedLeaf}
 use Rattle.bl_book_terms.specs.Books.{Status, Ready, Claimed, Divided, Closed, Node, node_at, no_node, Book, IsLive}
 use Rattle.bl_book_terms.specs.Books.{IsFinished}
 use Rattle.bl_book_terms.specs.Laws.{KeepsStatus, IsSound, leaf_count}
-use Rattle.bl_core.specs.Accounts.{IsUnsplit, IsSplitInto}
+use Rattle.bl_core.specs.Accounts.{IsUnsplit}
 use Rattle.bl_cert_book.specs.BookCertificates.{book_tree}
 use Rattle.bl_cert.specs.Order.{own_node, node_here, nodes_here, AreThere, IsPreorder, halves_by, halves_of}
 use Rattle.bl_cert.proofs.Trees.{whole_tree, opened}

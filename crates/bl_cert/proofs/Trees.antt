@@ -1,8 +1,8 @@
 -- The trees under the nodes of a book, as deep as they are.
-use Rattle.std.proofs.Common.{◌≡◌, ℕ, zero, suc, ◌+◌, ◌<◌, ◌≤◌, refl, sym, ap, arith, List, [], ◌∷◌, ◌++◌, length}
+use Rattle.std.proofs.Common.{◌≡◌, ℕ, zero, suc, ◌+◌, ◌<◌, ◌≤◌, refl, sym, ap, arith, List, ◌∷◌, ◌++◌, length}
 use Rattle.std.proofs.lemmas.List.{append-nil}
 use Rattle.std.specs.List.{flat_map}
-use Rattle.bl_terms.specs.Trees.{BareNode, Leaf, Split}
+use Rattle.bl_terms.specs.Trees.{BareNode, Split}
 use Rattle.bl_leaf_terms.specs.Leaves.{ClosedLeaf}
 use Rattle.bl_book_terms.specs.Books.{Status, Ready, Claimed, Divided, Closed, Book, node_at}
 use Rattle.bl_book_terms.specs.Laws.{KeepsStatus, IsSound}
@@ -54,6 +54,7 @@ opened b k sound there = by (length b.nodes) refl
         ap (λ (t : List (BareNode ClosedLeaf)). Split h.column h.at tt ∷ t)
         (rw low_same (rw high_same (ap (λ (t : List (BareNode ClosedLeaf)). whole_tree b low ++ t)
         (sym (append-nil (whole_tree b (suc low)))))))
+
     by : (n : ℕ) → length b.nodes ≡ n
         → tree_under b.nodes n k ≡ node_here b k ++ flat_map (whole_tree b) (halves_of b k)
     by zero is = absurd (omega (arith, is))

@@ -1,5 +1,5 @@
 -- Internal. The lines of a certificate in pieces.
-use Rattle.std.specs.Prelude.{ℕ, ◌<◌, ◌^◌, pos, List, [], ◌∷◌, ◌++◌, length, map, All}
+use Rattle.std.specs.Prelude.{◌<◌, ◌^◌, pos, List, [], ◌∷◌, ◌++◌, length, map, All}
 use Rattle.std.specs.List.{flat_map}
 use Rattle.bl_terms.specs.Programs.{Program}
 use Rattle.bl_terms.specs.Trees.{BareNode}

@@ -1,12 +1,12 @@
 -- Internal. The nodes of a tree that are placed one after the other.
-use Rattle.std.specs.Prelude.{ℕ, ◌≡◌, List, ◌∷◌, [], ◌++◌, map, Option, Some, None, option_map}
+use Rattle.std.specs.Prelude.{ℕ, ◌≡◌, List, ◌∷◌, [], ◌++◌, map, Some, None, option_map}
 use Rattle.bl_terms.specs.Trees.{BareNode, Leaf}
 use Rattle.bl_cut_terms.specs.NoGoods.{CutStep}
 use Rattle.bl_leaf_terms.specs.Leaves.{ClosedLeaf, Evidence}
 use Rattle.bl_cert_terms.specs.Certificates.{LeafProof}
 use Rattle.bl_book_terms.specs.Books.{Book}
 use Rattle.bl_cert_book.specs.BookCertificates.{book_tree, rows_before_cuts}
-use Rattle.bl_cert_book.specs.Leaves.{PlacedTree, placed_tree, PlacedLeaf, placed_leaf}
+use Rattle.bl_cert_book.specs.Leaves.{PlacedTree, placed_tree, placed_leaf}
 use Rattle.bl_certline.specs.Fields.{Bytes}
 use Rattle.bl_certtext.specs.Texts.{text_of}
 use Rattle.bl_check_terms.specs.Writing.{node_line}

@@ -55,7 +55,12 @@ fn entry_of_leaf(leaf: &Leaf) -> Option<&Kept>
 }
 
 /// Adds the entry that a node uses, where it is a leaf that uses one.
-fn enter_node(alloc: Global, book: &Book, node: u32, entries: &mut Entries) -> Result<(), AllocError>
+fn enter_node(
+    alloc: Global,
+    book: &Book,
+    node: u32,
+    entries: &mut Entries,
+) -> Result<(), AllocError>
     requires there { node < length book.now.ledger.book.nodes }
     requires by_link { AreByLink entries.old.entries }
     ensures by_link { OnOk result (AreByLink entries.new.entries) }
@@ -148,7 +153,9 @@ fn said_line(alloc: Global, answered: &Answered) -> Result<CertLine, AllocError>
 {
     match answered {
         Answered::Best {
-            response, value, ..
+            response,
+            value,
+            ..
         } => Ok(CertLine::Best {
             value: *value,
             response: copied(alloc, response.as_slice())?,

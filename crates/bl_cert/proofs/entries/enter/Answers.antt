@@ -1,9 +1,7 @@
-use Rattle.std.proofs.Common.{◌≡◌, true, false, List, sym, ap, ◌∙◌, subst}
+use Rattle.std.proofs.Common.{◌≡◌, List, sym, ap, ◌∙◌}
 use Rattle.std.specs.Prelude.{ℤ, is_some}
 use Rattle.std.specs.BTreeMap.{insert_entry}
 use Rattle.bl_fproof.specs.Entries.{Admitted}
-use Rattle.bl_cert_book.specs.Entries.{proved_entry, with_entry}
-use Rattle.bl_cert.specs.Entered.{AreByLink}
 use Rattle.bl_cert.proofs.Entering.{at_link, key_order, listed, kept-entry, entry-inserted, links-inserted}
 use Rattle.bl_cert.proofs.entries.enter.Goals as goal
 use Rattle.bl_cert.proofs.entries.enter.Goals.{After-contains_key, Joined-branch-4}

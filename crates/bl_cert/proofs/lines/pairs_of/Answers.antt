@@ -1,4 +1,4 @@
-use Rattle.std.proofs.Common.{◌≡◌, ℕ, suc, ◌+◌, ◌<◌, Bool, true, false, List, [], ◌∷◌, ◌++◌, length, drop, map, sym, ap, refl, ◌∙◌, pos, ℤ, of_z, w64, add-one, append_assoc, rules, arith, to_z, FitsSigned, append-nil}
+use Rattle.std.proofs.Common.{◌≡◌, ℕ, suc, ◌+◌, ◌<◌, Bool, true, false, List, [], ◌∷◌, ◌++◌, length, drop, sym, ap, refl, ◌∙◌, pos, ℤ, of_z, w64, add-one, append_assoc, rules, arith, to_z, FitsSigned, append-nil}
 use Rattle.std.specs.Prelude.{slice_index_or, if◌then◌else◌}
 use Rattle.std.specs.Ordering.{int_eq}
 use Rattle.std.proofs.lemmas.Bool.{false_from_ne_true}
@@ -51,13 +51,13 @@ loop-k-preserved c =
     let split = further numbers k c.loop-k-test.true in
     let rest = pairs_from (k + 1) (drop (k + 1) numbers) in
     elim c.if-numbers-k-ne0.branch [
-      then-numbers-k-ne0+in_ok-push w ↦
-        put c.loop-k.pairs.items (pair_here k m) (pairs_from k (drop k numbers)) (pairs_from 0 numbers)
-        c.if-numbers-k-ne0.pairs.items rest c.loop-k.invariant split
-        (rw (one-here k m (λ e. w.if-numbers-k-ne0.true (ap (of_z w64) e)), w.pairs-is)
-        (simp (small, to_z-of_z) at w.in_ok-push.ensures.items))
-    | else-numbers-k-ne0 w ↦
-        put c.loop-k.pairs.items (pair_here k m) (pairs_from k (drop k numbers)) (pairs_from 0 numbers)
-        c.if-numbers-k-ne0.pairs.items rest c.loop-k.invariant split
-        (rw (none-here k m (omega (arith, ints)), w.pairs-is) (sym (append-nil c.loop-k.pairs.items)))
+      | then-numbers-k-ne0+in_ok-push w ↦
+          put c.loop-k.pairs.items (pair_here k m) (pairs_from k (drop k numbers)) (pairs_from 0 numbers)
+          c.if-numbers-k-ne0.pairs.items rest c.loop-k.invariant split
+          (rw (one-here k m (λ e. w.if-numbers-k-ne0.true (ap (of_z w64) e)), w.pairs-is)
+          (simp (small, to_z-of_z) at w.in_ok-push.ensures.items))
+      | else-numbers-k-ne0 w ↦
+          put c.loop-k.pairs.items (pair_here k m) (pairs_from k (drop k numbers)) (pairs_from 0 numbers)
+          c.if-numbers-k-ne0.pairs.items rest c.loop-k.invariant split
+          (rw (none-here k m (omega (arith, ints)), w.pairs-is) (sym (append-nil c.loop-k.pairs.items)))
     ]

@@ -1,6 +1,5 @@
 use Rattle.std.proofs.Common.{◌≡◌, ℕ, ◌<◌, List, [], ◌∷◌, ◌++◌, reverse, sym, ap, ◌∙◌, subst, arith}
 use Rattle.std.proofs.lemmas.List.{nil_from_length, reverse-append}
-use Rattle.bl_book_terms.specs.Books.{Book}
 use Rattle.bl_book_terms.specs.Laws.{IsSound}
 use Rattle.bl_book_terms.proofs.RunLemmas.{every_run_is_sound}
 use Rattle.bl_core.specs.Accounts.{IsKept, KeptBook}

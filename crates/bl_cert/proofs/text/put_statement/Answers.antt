@@ -1,5 +1,4 @@
-use Rattle.std.proofs.Common.{List, sym, ◌∙◌, subst}
-use Rattle.std.specs.Prelude.{ℤ}
+use Rattle.std.proofs.Common.{sym, ◌∙◌, subst}
 use Rattle.bl_terms.specs.Programs.{Program, InBox}
 use Rattle.bl_cert.proofs.Certificates.{best-inside}
 use Rattle.bl_cert.proofs.text.put_statement.Goals as goal

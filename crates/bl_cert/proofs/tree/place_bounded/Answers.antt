@@ -1,4 +1,4 @@
-use Rattle.std.proofs.Common.{◌≡◌, ℕ, Bool, List, [], ◌∷◌, ◌++◌, Some, map, true, sym, ap, ◌∙◌}
+use Rattle.std.proofs.Common.{◌≡◌, ℕ, Bool, List, [], ◌∷◌, ◌++◌, map, true, sym, ap, ◌∙◌}
 use Rattle.std.specs.Prelude.{ℤ, is_some}
 use Rattle.std.specs.Arc.{arc_value}
 use Rattle.bl_terms.specs.Trees.{Leaf}

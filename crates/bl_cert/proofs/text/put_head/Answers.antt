@@ -1,2 +1,0 @@
-use Rattle.bl_cert.proofs.Certificates.{text-of-book}
-use Rattle.bl_cert.proofs.text.put_head.Goals as goal
