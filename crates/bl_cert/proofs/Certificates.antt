@@ -15,7 +15,8 @@ use Rattle.bl_book_terms.specs.Books.{Book, Ledger, IsFinished}
 use Rattle.bl_book_terms.proofs.RunLemmas.{every_run_is_sound}
 use Rattle.bl_core.specs.Accounts.{IsKept}
 use Rattle.bl_cert_terms.specs.Certificates.{ProvedEntry, LeafProof, Certificate, IsAccepted}
-use Rattle.bl_cert_book.specs.BookCertificates.{book_tree, stated_by, rows_before_cuts, certificate_with, certificate_of}
+use Rattle.bl_cert_book.specs.BookCertificates.{book_tree, stated_by, rows_before_cuts, certificate_with}
+use Rattle.bl_cert_book.specs.BookCertificates.{certificate_of}
 use Rattle.bl_cert_book.specs.Entries.{entries_of_best, entries_of_tree, with_entries}
 use Rattle.bl_cert_book.specs.Leaves.{PlacedTree, placed_tree}
 use Rattle.bl_cert_book.proofs.BookLemmas.{finished_book_is_accepted}

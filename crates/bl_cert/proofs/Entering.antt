@@ -97,7 +97,8 @@ entry-inserted {Z = Z} k e ((q, x) ∷ es) by-link same none =
         (proved_entry x ∷ listed es) (proved_entry x ∷ with_entry (listed es) (proved_entry e))
     by Less is alike none later = rw (alike, is) refl
     by Equal is alike none later =
-        absurd (true≢false (ap (λ (o : Ordering). is_some (cond (is_eq o) (Some x) (at_link e.link es))) (sym is) ∙ none))
+        absurd (true≢false
+        (ap (λ (o : Ordering). is_some (cond (is_eq o) (Some x) (at_link e.link es))) (sym is) ∙ none))
     by Greater is alike none later =
         let rest =
         later (ap (λ (o : Ordering). is_some (cond (is_eq o) (Some x) (at_link e.link es))) (sym is) ∙ none) in
@@ -118,7 +119,8 @@ links-inserted {Z = Z} k e ((q, x) ∷ es) by-link same none =
         ((q, x) ∷ insert_entry key_order es k e))
     by Less is none later = rw is (same, by-link)
     by Equal is none later =
-        absurd (true≢false (ap (λ (o : Ordering). is_some (cond (is_eq o) (Some x) (at_link e.link es))) (sym is) ∙ none))
+        absurd (true≢false
+        (ap (λ (o : Ordering). is_some (cond (is_eq o) (Some x) (at_link e.link es))) (sym is) ∙ none))
     by Greater is none later =
         rw is (
           by-link.0,

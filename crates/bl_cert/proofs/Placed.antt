@@ -113,7 +113,8 @@ front-both done more (Some t) =
     (sym (append_assoc done more t.nodes))
 
 pub puts-more : (n : ℕ) (ns ms : List (BareNode ClosedLeaf)) (old mid new : List CutStep) (text first second : Bytes)
-    → PutsNodes n ns old text mid first → PutsNodes n ms mid first new second → PutsNodes n (ns ++ ms) old text new second
+    → PutsNodes n ns old text mid first → PutsNodes n ms mid first new second
+    → PutsNodes n (ns ++ ms) old text new second
 puts-more n ns ms old mid new text first second puts more = record {
   done = puts.done ++ more.done;
   placed = λ rest.

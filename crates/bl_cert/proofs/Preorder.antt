@@ -23,11 +23,13 @@ use Rattle.bl_cert.proofs.Trees.{whole_tree, opened}
 
 pub unsplit-halves : (b : Book) (k : ℕ) → IsUnsplit b k → halves_of b k ≡ []
 unsplit-halves b k whole =
-    ⊎_elim (λ there. by (node_at b.nodes k).status (λ h licence low is. whole h licence low (record { there = there; status = is })))
+    ⊎_elim (λ there. by (node_at b.nodes k).status
+    (λ h licence low is. whole h licence low (record { there = there; status = is })))
     (λ past. ap (λ (n : Node). halves_by n.status) (get_or_past b.nodes k no_node past))
     (cases_lt k (length b.nodes))
   where
-    by : (s : Status) → ((h : Halved) (licence : NodeLicence) (low : ℕ) → s ≡ Divided h licence low → ⊥) → halves_by s ≡ []
+    by : (s : Status) → ((h : Halved) (licence : NodeLicence) (low : ℕ) → s ≡ Divided h licence low → ⊥)
+        → halves_by s ≡ []
     by Ready none = refl
     by (Claimed w u) none = refl
     by (Closed leaf) none = refl
@@ -76,7 +78,9 @@ pub record IsOnTheWay (b : Book) (ks waiting : List ℕ) : Type 0 where
   pub ahead : AreThere b waiting
 
 first-there : (b : Book) → IsSound b → 0 < length b.nodes
-first-there b sound = ⊎_elim (λ some. some) (λ none. absurd (empty (nil_from_length b.nodes (omega arith)) sound.made)) (cases_lt 0 (length b.nodes))
+first-there b sound =
+    ⊎_elim (λ some. some) (λ none. absurd (empty (nil_from_length b.nodes (omega arith)) sound.made))
+    (cases_lt 0 (length b.nodes))
   where
     empty : b.nodes ≡ [] → length b.nodes + 1 ≡ 2 * leaf_count b.nodes → ⊥
     empty e made =

@@ -50,7 +50,8 @@ opened b k sound there = by (length b.nodes) refl
         enough b low m (length b.nodes) sound (let t = keeps.there in omega arith)
         (let t = keeps.higher in omega (arith, is)) (omega arith) in
         let high_same : tree_under b.nodes m (suc low) ≡ whole_tree b (suc low) =
-        enough b (suc low) m (length b.nodes) sound keeps.there (let t = keeps.higher in omega (arith, is)) (omega arith) in
+        enough b (suc low) m (length b.nodes) sound keeps.there (let t = keeps.higher in omega (arith, is))
+        (omega arith) in
         ap (λ (t : List (BareNode ClosedLeaf)). Split h.column h.at tt ∷ t)
         (rw low_same (rw high_same (ap (λ (t : List (BareNode ClosedLeaf)). whole_tree b low ++ t)
         (sym (append-nil (whole_tree b (suc low)))))))

@@ -19,8 +19,8 @@ pub record IsCertificateText (b : Book) (text : Bytes) : Type 0 where
   pub spelled : text ≡ certificate_text b.program certificate
   pub accepted : Accepts b.program text (stated_by b.program b.best)
 
--- how the text came to the chosen file: it stands at its end; or some first bytes of it do, and the fault was counted; or
--- nothing changed for want of memory
+-- how the text came to the chosen file: it stands at its end; or some first bytes of it do, and the fault was counted;
+-- or nothing changed for want of memory
 abbrev pub IsWritten : {T : Type 0} → Book → Result T WriteFail → ShelfState → ShelfState → Type 0
 IsWritten b (Ok _) old new =
     (text : Bytes) × IsCertificateText b text × Told (Appends (chosen_name old.mode) text) old.contents new.contents

@@ -93,7 +93,8 @@ fn enter_best(alloc: Global, book: &Book, entries: &mut Entries) -> Result<(), A
 pub(crate) fn entries_of(alloc: Global, book: &Book, order: &[u32]) -> Result<Entries, AllocError>
     requires { IsPreorder book.now.ledger.book order.now }
     ensures { IfOk result (λ entries. entered entries
-        ≡ with_entries [] (entries_of_best book.now.ledger.book.best ++ entries_of_tree (book_tree book.now.ledger.book))) }
+        ≡ with_entries []
+        (entries_of_best book.now.ledger.book.best ++ entries_of_tree (book_tree book.now.ledger.book))) }
 {
     let mut entries = BTreeMap::new(alloc);
     enter_best(alloc, book, &mut entries)?;

@@ -1,6 +1,7 @@
 //! Lines from the parts of entries, cuts and leaves.
 ghost use Rattle.std.specs.Prelude.{◌≡◌, ◌<◌, ◌^◌, length, map, IfOk};
-ghost use Rattle.bl_check_terms.specs.Values.{item_of as item_of_tight, pairs_of as pairs_of_list, sides_of as sides_of_area};
+ghost use Rattle.bl_check_terms.specs.Values.{item_of as item_of_tight, pairs_of as pairs_of_list};
+ghost use Rattle.bl_check_terms.specs.Values.{sides_of as sides_of_area};
 ghost use Rattle.bl_check_terms.specs.Values.{unit_pairs as pairs_of_unit};
 
 use bl_certline::{CertLine, TightItem};

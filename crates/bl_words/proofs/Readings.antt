@@ -1,7 +1,9 @@
 -- What the texts of items are read as.
-use Rattle.std.proofs.Common.{◌≡◌, ◌≢◌, ◌⊎◌, ℕ, zero, suc, ◌-◌, ◌≤◌, Bool, true, false, not, List, [], ◌∷◌, length, map, take}
+use Rattle.std.proofs.Common.{◌≡◌, ◌≢◌, ◌⊎◌, ℕ, zero, suc, ◌-◌, ◌≤◌, Bool, true, false, not, List, [], ◌∷◌, length}
+use Rattle.std.proofs.Common.{map, take}
 use Rattle.std.proofs.Common.{◌<◌, ◌^◌}
-use Rattle.std.proofs.Common.{drop, get_or, Option, Some, None, option_to_list, refl, sym, ap, ◌∙◌, arith, ℤ, pos, negsuc, inl, inr}
+use Rattle.std.proofs.Common.{drop, get_or, Option, Some, None, option_to_list, refl, sym, ap, ◌∙◌, arith, ℤ, pos}
+use Rattle.std.proofs.Common.{negsuc, inl, inr}
 use Rattle.std.proofs.Common.{is_some, subst}
 use Rattle.std.specs.Prelude.{slice_get, ◌<ℤ◌, ◌≤ℤ◌, FitsSigned, IfSome, IfNone}
 use Rattle.std.specs.Fmt.{decimal, signed_decimal}

@@ -51,8 +51,8 @@ IsNumber limits [] value = value ≡ limits.usual
 IsNumber limits (text ∷ []) value = (limits.least ≤ value) × (value ≤ limits.greatest) × (text ≡ decimal value)
 IsNumber limits (text ∷ other ∷ texts) value = ⊥
 
--- what the words of a command say: the MPS file, the auxiliary file and the certificate's, where there is one; the upper
--- bound of an integer column that no bound line names; the budgets of nodes of the branch-and-bound tree and of each
+-- what the words of a command say: the MPS file, the auxiliary file and the certificate's, where there is one; the
+-- upper bound of an integer column that no bound line names; the budgets of nodes of the branch-and-bound tree and of each
 -- follower's tree
 pub record Said : Type 0 where
   pub mps : List ℕ

@@ -499,8 +499,8 @@ states infeasible
 ";
 
 /// That (1, 0) is optimal for `CUT`. At (1, 1) the follower's row and the upper side of X hold with equality and add up
-/// to Y <= 1, and the follower has the cheaper response 0: so Y <= 0. The cost and twice this cut add up to -X, which is
-/// at least -1.
+/// to Y <= 1, and the follower has the cheaper response 0: so Y <= 0. The cost and twice this cut add up to -X, which
+/// is at least -1.
 pub(super) const CUT_CERT: &str = "\
 mibs-certificate 2
 sense min

@@ -11,7 +11,8 @@ asked : (c : After-contains_key) → c.link-link.result.now ≡ c.args.kept.now.
 asked c = c.link-link.ensures.value ∙ ap (λ (e : Admitted). e.link) c.entry.ensures
 
 -- whether the entry's link is there
-found : (c : After-contains_key) → c.contains_key.result ≡ is_some (at_link c.args.kept.now.link c.args.entries.now.entries)
+found : (c : After-contains_key)
+    → c.contains_key.result ≡ is_some (at_link c.args.kept.now.link c.args.entries.now.entries)
 found c =
     c.contains_key.ensures
     ∙ ap (λ (l : List ℤ). is_some (at_link l c.args.entries.now.entries)) (asked c)

@@ -44,7 +44,8 @@ loop-node-smaller c =
     let b = c.args.book.now.ledger.book in
     let k = c.in-Some.node in
     let rest = reverse c.pop.new.self.items in
-    subst (λ (ks : List ℕ). to_come b ks < to_come b (reverse c.loop-node.stack.items)) (sym c.in_ok-push_halves.ensures)
+    subst (λ (ks : List ℕ). to_come b ks < to_come b (reverse c.loop-node.stack.items))
+    (sym c.in_ok-push_halves.ensures)
     (subst (λ (ks : List ℕ). to_come b (halves_of b k ++ rest) < to_come b ks) (sym (taken c))
     (fewer-to_come b k rest (sound c.args.book.now c.model-kept.ensures.kept) c.requires (way c).ahead.0))
 

@@ -17,7 +17,8 @@ pub returns-clause-report : goal.returns-clause-report
 returns-clause-report c =
     let words = asked_by Solve c.args.words.now in
     let P : List RawColumn → Program → Type 0 =
-    λ cs p. IfOk c.told_of.result (λ (s : Solved). IsReport cs p words s.report.answer s.report.text.items s.cert.items) in
+    λ cs p. IfOk c.told_of.result
+    (λ (s : Solved). IsReport cs p words s.report.answer s.report.text.items s.cert.items) in
     let own = c.in_ok-outcome.outcome.book.ledger.book.program in
     subst (λ (p : Program). P c.args.texts.now.mps.columns p) (c.in_ok-outcome.ensures.program ∙ c.in_ok-model.ensures)
     (subst (λ (cs : List RawColumn). P cs own) c.as_slice.ensures c.told_of.ensures.report)
