@@ -52,8 +52,8 @@ IsNumber limits (text ∷ []) value = (limits.least ≤ value) × (value ≤ lim
 IsNumber limits (text ∷ other ∷ texts) value = ⊥
 
 -- what the words of a command say: the MPS file, the auxiliary file and the certificate's, where there is one; the
--- upper bound of an integer column that no bound line names; the budgets of nodes of the branch-and-bound tree and of each
--- follower's tree
+-- upper bound of an integer column that no bound line names; the budgets of nodes of the branch-and-bound tree and of
+-- each follower's tree
 pub record Said : Type 0 where
   pub mps : List ℕ
   pub aux : List ℕ
