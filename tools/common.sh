@@ -23,7 +23,7 @@ copy_crate() {
     local line below
     line=$(grep "^$1:" "$top/crates.txt") || return 0
     [ ! -e "crates/$1" ] || return 0
-    cp -r "$top/crates/$1" crates/
+    cp -a "$top/crates/$1" crates/
     echo "$line" >> crates.txt
     for below in ${line#*:}; do
         copy_crate "$below"

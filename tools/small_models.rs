@@ -2,18 +2,20 @@
 use std::fmt::Write;
 use std::fs;
 
-struct Row {
-    coef: Vec<i64>,
-    rhs: i64,
-    lower: bool,
+/// A row `coef·z <= rhs`, the follower's where it is a lower one.
+pub struct Row {
+    pub coef: Vec<i64>,
+    pub rhs: i64,
+    pub lower: bool,
 }
 
+/// All columns are from 0; the leader's come first. The follower's cost is 0 in them.
 pub struct Model {
-    leaders: usize,
-    hi: Vec<i64>,
-    rows: Vec<Row>,
-    cost: Vec<i64>,
-    follower_cost: Vec<i64>,
+    pub leaders: usize,
+    pub hi: Vec<i64>,
+    pub rows: Vec<Row>,
+    pub cost: Vec<i64>,
+    pub follower_cost: Vec<i64>,
 }
 
 /// Numbers by a linear congruence (Knuth's MMIX).

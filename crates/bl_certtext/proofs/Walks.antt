@@ -1,5 +1,5 @@
 -- The lines that are read, one after another.
-use Rattle.std.proofs.Common.{◌≡◌, ℕ, ◌+◌, ◌<◌, List, [], ◌∷◌, ◌++◌, length, sym, ap, subst, ◌∙◌}
+use Rattle.std.proofs.Common.{◌≡◌, ◌+◌, List, [], ◌∷◌, ◌++◌, sym, ap, subst, ◌∙◌}
 use Rattle.std.proofs.Common.{append_assoc}
 use Rattle.std.proofs.Common.{reverse, Option, None, Some, Bor}
 use Rattle.std.specs.Prelude.{MatchOption}
@@ -12,7 +12,7 @@ use Rattle.bl_certtext.specs.declared.part.Part.{Part}
 use Rattle.bl_certtext.specs.declared.part.Following.{Following}
 use Rattle.bl_certtext.specs.Grammar.{Begins, Follows, IsStep}
 use Rattle.bl_certtext.specs.Steps.{Advances, IsFirstLine, IsNoLine, IsReached, IsRefusedLine}
-use Rattle.bl_certtext.specs.Texts.{FailsFirst, IsCanonicalLine, IsCertificate, Leads, line_text, start}
+use Rattle.bl_certtext.specs.Texts.{IsCanonicalLine, Leads, line_text, start}
 use Rattle.bl_certtext.specs.Texts.{text_of}
 use Rattle.bl_certtext.proofs.FirstLines.{one_first}
 
@@ -55,43 +55,6 @@ reached_more p bytes ls front part rest line behind new h a = record {
   grammar = subst (Leads p start (ls ++ line ∷ [])) (sym a.expected)
       (Leads-more p start ls part (reverse front) a.next line (top p ls front part h.grammar) a.follows);
   spelled = h.spelled ∙ ap (λ (t : Bytes). text_of ls ++ t) a.first.spelled ∙ text-more ls line behind;
-}
-
--- nothing that is expected comes next
-pub reached_refused : (p : Program) (bytes : Bytes) (ls : List CertLine) (front : List Part) (part : Part)
-    (rest : Bytes) (number : ℕ) → IsReached p bytes ls (front ++ part ∷ []) rest → IsRefusedLine p part rest
-    → number ≡ length ls + 1 → FailsFirst p bytes number
-reached_refused p bytes ls front part rest number h refused counted = record {
-  before = ls;
-  rest = rest;
-  expected = part ∷ reverse front;
-  canonical = h.canonical;
-  grammar = top p ls front part h.grammar;
-  spelled = h.spelled;
-  refused = refused;
-  counted = counted;
-}
-
--- something stands behind the end
-pub reached_tail : (p : Program) (bytes : Bytes) (ls : List CertLine) (rest : Bytes) (number : ℕ)
-    → IsReached p bytes ls [] rest → 0 < length rest → number ≡ length ls + 1 → FailsFirst p bytes number
-reached_tail p bytes ls rest number h some counted = record {
-  before = ls;
-  rest = rest;
-  expected = [];
-  canonical = h.canonical;
-  grammar = h.grammar;
-  spelled = h.spelled;
-  refused = some;
-  counted = counted;
-}
-
-pub reached_end : (p : Program) (bytes : Bytes) (ls : List CertLine) → IsReached p bytes ls [] []
-    → IsCertificate p bytes ls
-reached_end p bytes ls h = record {
-  canonical = h.canonical;
-  grammar = h.grammar;
-  spelled = h.spelled ∙ append-nil (text_of ls);
 }
 
 -- the line that comes first isn't one with which the part begins, so no line is

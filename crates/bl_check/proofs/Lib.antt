@@ -5,4 +5,5 @@ pub mod NodeLines
 pub mod PlainLines
 pub mod SaidEntries
 pub mod StatedLines
+pub mod Truth
 pub mod Verdicts

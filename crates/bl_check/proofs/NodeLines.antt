@@ -14,8 +14,8 @@ use Rattle.bl_terms.specs.Points.{Area}
 use Rattle.bl_terms.specs.Programs.{Program}
 use Rattle.bl_terms.specs.Responses.{Entry, Best, NoResponse}
 use Rattle.bl_terms.specs.Trees.{BareNode, Leaf, Split}
-use Rattle.bl_terms.specs.Bounds.{Multipliers, Problem}
-use Rattle.bl_terms.specs.FollowerProofs.{IsFollowerProof, follower_box}
+use Rattle.bl_terms.specs.Bounds.{Multipliers}
+use Rattle.bl_terms.specs.FollowerProofs.{IsFollowerProof}
 use Rattle.bl_model.specs.View.{IsModel}
 use Rattle.bl_cut_terms.specs.NoGoods.{local_row}
 use Rattle.bl_cert_terms.specs.declared.stated.Statement.{Statement}
@@ -38,7 +38,6 @@ use Rattle.bl_check_terms.proofs.Readings.{all_rules}
 use Rattle.bl_check_terms.proofs.Standing.{FollowerStands, TreeStands}
 use Rattle.bl_check_walk.specs.declared.site.Site.TheVariants as sites
 use Rattle.bl_check_walk.specs.Judges.{StandsAt}
-use Rattle.bl_check_walk.specs.Sites.{IsPartOf}
 use Rattle.bl_check_state.specs.Saying.{AreCutRows, IsLeafRule, IsReady, IsSaid, IsStatedInside, answer_of}
 use Rattle.bl_check.specs.declared.entry.OpenEntry.{OpenEntry}
 use Rattle.bl_check.specs.declared.checker.Checker.{Checker}
@@ -71,19 +70,6 @@ proof_at_hand p old b den mult g (c, (parts.FollowerTree a, (expected, h))) e =
     stands (IsKept p old) p (sites.FollowerTree b) (lines.Proof den mult) c (parts.FollowerTree a) expected g h in
     none_at_hand p old.entry c.entries h.said.entry st.opened.ends e
 proof_at_hand p old b den mult g (c, (part, (expected, h))) e = absurd h.site_is
-
--- its rows are those of the follower's problem
-pub proof_rows : (p : Program) (old : Checker) (b : Arc Area Global) (held : OpenEntry) (den : ℤ) (mult : List (ℤ × ℤ))
-    → IsAsked p old (sites.FollowerTree b) (lines.Proof den mult) → old.entry ≡ Some held
-    → held.rows.area ≡ follower_box p
-proof_rows p old b held den mult (c, (part, (expected, h))) e =
-    ap (λ (q : Problem). q.area) (at_hand p old.entry c.entries held h.said.entry e).rows
-
--- the box is a part of the program's
-pub follower_part : (p : Program) (old : Checker) (b : Arc Area Global) (line : CertLine)
-    → IsAsked p old (sites.FollowerTree b) line → IsPartOf p (arc_value b)
-follower_part p old b line (c, (parts.FollowerTree a, (expected, h))) = subst (IsPartOf p) (sym h.site_is) h.sound
-follower_part p old b line (c, (part, (expected, h))) = absurd h.site_is
 
 -- what the test tells of an entry that has these rows
 abbrev pub ProofTest : Program → OpenEntry → Bool → Area → ℤ → List (ℤ × ℤ) → Type 0
@@ -146,11 +132,6 @@ tree_kept p old c n h = record {
   };
   entry = h.entry;
 }
-
-pub tree_part : (p : Program) (old : Checker) (b : Arc Area Global) (line : CertLine)
-    → IsAsked p old (sites.Tree b) line → IsPartOf p (arc_value b)
-tree_part p old b line (c, (parts.Tree a cuts, (expected, h))) = subst (IsPartOf p) (sym h.site_is) h.sound
-tree_part p old b line (c, (part, (expected, h))) = absurd h.site_is
 
 -- what a leaf cites is there
 pub close_there : (p : Program) (old : Checker) (b : Arc Area Global) (den : ℤ) (uses : Bool) (count : ℤ)

@@ -2,7 +2,7 @@
 use Rattle.std.proofs.Common.{◌≡◌, ◌-◌, Bool, List, [], ◌∷◌, ◌++◌, Option, None, Some, refl, sym, ap, subst, ◌∙◌}
 use Rattle.std.specs.Prelude.{ℤ, ◌↔◌, IsTrue}
 use Rattle.bl_terms.specs.Programs.{Program, MeetsRows, value_at}
-use Rattle.bl_terms.specs.Responses.{Best, IsLink, IsResponse, response_cost}
+use Rattle.bl_terms.specs.Responses.{Best, IsResponse, response_cost}
 use Rattle.bl_model.specs.View.{IsModel}
 use Rattle.bl_cert_terms.specs.declared.stated.Statement.{Statement}
 use Rattle.bl_cert_terms.specs.declared.stated.Statement.TheVariants.{Optimal, Infeasible}
@@ -79,11 +79,6 @@ cut_count_line p old count kept broken e test c parts.CutCount expected h =
 cut_count_line p old count kept broken e test c part expected h = absurd h.formed.form
 
 -- ---- entries
-
-pub head_is_link : (p : Program) (old : Checker) (link : List ℤ)
-    → IsAsked p old sites.Elsewhere (lines.EntryHead link) → IsLink p link
-head_is_link p old link (c, (parts.Entries left last, (expected, h))) = h.placed.begins.0
-head_is_link p old link (c, (part, (expected, h))) = absurd h.formed.form
 
 pub entry_head_line : (p : Program) (old : Checker) (answers : Answers) (held : OpenEntry) (link : List ℤ) → IsModel p
     → IsNoted old.said.answers answers link None → IsOpenAs p held (entry_of_link link)

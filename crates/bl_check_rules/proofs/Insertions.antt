@@ -13,10 +13,6 @@ use Rattle.indexmap.specs.IndexMap.{insert_entry}
 same-as : (l m k : List ℤ) → pointwise int_eq m k ≡ true → pointwise int_eq l k ≡ pointwise int_eq l m
 same-as l m k e = ap (λ (x : List ℤ). pointwise int_eq l x) (sym ((signed_items m k).0 e))
 
-kept-or : {X : Type 0} (a b : Bool) (x : X) (rest : Option X) → a ≡ b
-    → (if a then Some x else rest) ≡ (if b then Some x else rest)
-kept-or a b x rest e = ap (λ (t : Bool). if t then Some x else rest) e
-
 swapped : {X : Type 0} (a b : Bool) (x y : X) (rest : Option X) → (a ≡ true → b ≡ true → ⊥)
     → (if a then Some x else (if b then Some y else rest)) ≡ (if b then Some y else (if a then Some x else rest))
 swapped true true x y rest apart = absurd (apart refl refl)

@@ -1,5 +1,5 @@
 -- The lines that are read, one after another.
-use Rattle.std.proofs.Common.{◌≡◌, ℕ, ◌+◌, ◌-◌, ◌<◌, ◌≤◌, List, [], ◌∷◌, ◌++◌, length, refl, sym, ap, subst, ◌∙◌, arith}
+use Rattle.std.proofs.Common.{◌≡◌, ℕ, ◌+◌, ◌-◌, ◌<◌, List, [], ◌∷◌, ◌++◌, length, refl, sym, ap, subst, ◌∙◌, arith}
 use Rattle.std.proofs.Common.{append_assoc, length-append, reverse, Bool, true, false, zero, suc, Option, None, Some}
 use Rattle.std.specs.Prelude.{ℤ, pos, unsigned_abs, if◌then◌else◌, nat_lt}
 use Rattle.std.specs.List.{AllByRecursion}
@@ -173,11 +173,6 @@ pub known-top : (S : Certificate → Type 0) (p : Program) (bytes : Bytes) (numb
 known-top S p bytes number stack front part rest h e =
     let t = popped S p bytes number stack front part rest h e in
     (t.certificate, at-top S p bytes number front part rest t)
-
--- there is a byte for each line
-pub room-for : (S : Certificate → Type 0) (p : Program) (bytes : Bytes) (number : ℕ) (stack : List Part) (rest : Bytes)
-    → IsReached S p bytes number stack rest → number + length rest ≤ length bytes
-room-for S p bytes number stack rest h = h.room
 
 -- less is left behind a line
 pub advance-shorter : (S T : Certificate → Type 0) (p : Program) (c : Certificate) (part : Part) (bytes rest : Bytes)

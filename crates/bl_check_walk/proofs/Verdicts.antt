@@ -6,11 +6,10 @@ use Rattle.bl_terms.specs.Programs.{Program}
 use Rattle.bl_cert_terms.specs.Certificates.{Certificate}
 use Rattle.bl_certline.specs.declared.line.CertLine.{CertLine}
 use Rattle.bl_certline.specs.Fields.{Bytes}
-use Rattle.bl_certline.specs.Lines.{PairsRise}
 use Rattle.bl_certtext.specs.declared.part.Part.{Part}
 use Rattle.bl_certtext.specs.declared.part.Following.{Following}
 use Rattle.bl_certtext.specs.Forms.{HasForm}
-use Rattle.bl_certtext.specs.Grammar.{IsStep, parts_behind, parts_in}
+use Rattle.bl_certtext.specs.Grammar.{parts_behind, parts_in}
 use Rattle.bl_check_terms.specs.declared.rule.CertRule.{CertRule}
 use Rattle.bl_check_terms.specs.declared.rule.CertRule.TheVariants as rules
 use Rattle.bl_check_terms.specs.Accepting.{HasLine, IsPlaced, IsRefusedAt}
@@ -19,13 +18,7 @@ use Rattle.bl_check_terms.specs.Rules.{KeepsAll, IsFirstBroken}
 use Rattle.bl_check_walk.specs.declared.site.Site.{Site}
 use Rattle.bl_check_walk.specs.Judges.{StandsAt, IsVerdict}
 use Rattle.bl_check_walk.specs.Sites.{IsSite, IsSound}
-use Rattle.bl_check_walk.specs.Walks.{IsAdvance, IsAt, IsFirstLine, IsPlacedStep, IsRefusal}
-
--- the step over a line whose pairs rise
-pub placed-step : (p : Program) (part : Part) (line : CertLine) (step : Option Following) → PairsRise line
-    → IsStep p part line step → IsPlacedStep p part line step
-placed-step p part line None rising is = λ placed. is placed.begins
-placed-step p part line (Some f) rising is = (record { begins = is.begins; rising = rising }, is.next_parts)
+use Rattle.bl_check_walk.specs.Walks.{IsAdvance, IsAt, IsFirstLine, IsRefusal}
 
 -- the line that comes first, of the part's form
 pub has-line : (p : Program) (part : Part) (bytes : Bytes) (line : CertLine) (rest : Bytes)

@@ -1,7 +1,7 @@
 -- What the tests of a new cut show together.
 use Rattle.std.proofs.Common.{◌≡◌, ℕ, ◌+◌, ◌<◌, ◌^◌, refl, sym}
 use Rattle.std.proofs.Common.{◌∙◌, ap, subst, arith, List, []}
-use Rattle.std.proofs.Common.{rules, ◌∷◌, length, Option, Some, None, inl, inr}
+use Rattle.std.proofs.Common.{rules, ◌∷◌, length, Option, Some, inl, inr}
 use Rattle.std.specs.Prelude.{All, IsTrue, IsSome}
 use Rattle.std.proofs.lemmas.List.{get_or_default}
 use Rattle.std.proofs.lemmas.List.Elements.{All-head, All-tail}
@@ -24,7 +24,7 @@ use Rattle.bl_cut_proof.specs.declared.fault.CutFault.{CutFault}
 use Rattle.bl_cut_proof.specs.declared.fault.CutFault.TheVariants.{Size, Inverse, Tight as TightFault, Response, Memory}
 use Rattle.bl_cut_terms.specs.Adopting.{is_cut, is_used, steps_of}
 use Rattle.bl_cut_proof.specs.Proving.{local_rows, IsOfProgram, AreParts, IsCutOf, IsOwnStep, IsFault, IsSmallRow}
-use Rattle.bl_cut_proof.specs.Faults.{AreShown, IsRowsFault, IsSizeFault}
+use Rattle.bl_cut_proof.specs.Faults.{AreShown, IsRowsFault}
 use Rattle.bl_cut_proof.specs.Rows.{AreRows, HasShape, IsSized}
 use Rattle.bl_cut_proof.proofs.AdoptLemmas.{Decides-order, UsedAreShown, AreStepsOf, steps_shown}
 use Rattle.bl_cut_proof.proofs.RowLemmas.{rows_fit}
@@ -212,28 +212,6 @@ rows_fault p a earlier parts rows rs row steps s e all Response h =
       h.2,
     )
 rows_fault p a earlier parts rows rs row steps s e all Memory h = tt
-
--- a fault of the size, and of the steps
-pub size_is_fault : (p : Program) (a : Area) (earlier : List NoGoodCut) (parts : CutParts) (f : CutFault)
-    → IsSizeFault (¬ (HasSize p a (local_rows earlier) parts × All (IsOfProgram p earlier) parts.tight)) f
-    → IsFault p a earlier parts f
-size_is_fault p a earlier parts Size h = λ are. h (are.size, are.models)
-size_is_fault p a earlier parts Inverse h = absurd h
-size_is_fault p a earlier parts TightFault h = absurd h
-size_is_fault p a earlier parts Response h = absurd h
-size_is_fault p a earlier parts Memory h = tt
-
-pub steps_fault : (p : Program) (a : Area) (earlier : List NoGoodCut) (parts : CutParts) (f : CutFault)
-    → IsSizeFault (steps_of p a earlier parts ≡ None) f → IsFault p a earlier parts f
-steps_fault p a earlier parts Size h = λ are. no_some (steps_of p a earlier parts) h are.steps
-  where
-    no_some : (o : Option (List CutStep)) → o ≡ None → IsSome o → ⊥
-    no_some None e some = absurd cc
-    no_some (Some x) e some = absurd cc
-steps_fault p a earlier parts Inverse h = absurd h
-steps_fault p a earlier parts TightFault h = absurd h
-steps_fault p a earlier parts Response h = absurd h
-steps_fault p a earlier parts Memory h = tt
 
 -- the same of equal programs and boxes
 pub sized_at : (p q : Program) (a b : Area) (earlier : List NoGoodCut) (parts : CutParts) (rows : List Linear)

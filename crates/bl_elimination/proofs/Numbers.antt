@@ -1,18 +1,15 @@
 -- What the elimination does with the numbers of a row, place by place.
-use Rattle.std.proofs.Common.{◌≡◌, ◌≢◌, ℕ, zero, suc, ◌<◌, true, false, List, [], ◌∷◌, ◌++◌, length, ℤ, pos}
-use Rattle.std.proofs.Common.{refl, sym, ap, ◌∙◌, subst, arith}
+use Rattle.std.proofs.Common.{◌≡◌, ◌≢◌, ℕ, zero, suc, ◌<◌, true, false, List, [], ◌∷◌, length, ℤ, pos}
+use Rattle.std.proofs.Common.{refl, sym, ap, ◌∙◌, arith}
 use Rattle.std.specs.Prelude.{Option, Some, None, option_map, option_and_then}
 use Rattle.std.specs.Ordering.{int_eq}
 use Rattle.std.proofs.lemmas.Bool.Decides.{Decides-int_eq}
-use Rattle.bl_simplex.specs.Fractions.{Fraction, IsReduced, whole_fraction, product_of, difference_of, quotient_of}
+use Rattle.bl_simplex.specs.Fractions.{Fraction, IsReduced, product_of, difference_of, quotient_of}
 use Rattle.bl_simplex.specs.Rationals.{fraction_at}
 use Rattle.bl_frac.proofs.Zeros.{nought, nought_from_num, product_of-nought_left, product_of-nought_right}
 use Rattle.std.proofs.Common.{rules}
 use Rattle.std.specs.Option.{ok_or}
 use Rattle.std.specs.Prelude.{Result, Ok, Err, OnErr}
-use Rattle.std.proofs.Common.{inl, inr, length-append}
-use Rattle.std.proofs.lemmas.Bool.{cases_eq}
-use Rattle.std.proofs.lemmas.List.{get_or_append_left, get_or_push}
 use Rattle.bl_frac.proofs.Zeros.{quotient_of-nought, difference_of-nought}
 use Rattle.bl_tableau.specs.Cells.{AreReduced}
 use Rattle.bl_elimination.specs.Elimination.{joined, less_multiple, less_row, without, divided, first_nonzero}
@@ -119,17 +116,6 @@ first_nonzero-nowhere (x ∷ xs) all =
     (ap (option_map suc) (first_nonzero-nowhere xs (λ k b. all (suc k) (omega arith))))
 
 -- ---- lists in lowest terms
-
-pub reduced_push : (xs : List Fraction) (x : Fraction) → AreReduced xs → IsReduced x → AreReduced (xs ++ x ∷ [])
-reduced_push xs x hx h = record {
-  each = λ k l.
-      elim (cases_eq k (length xs)) [
-        | inl e ↦ subst IsReduced (sym (get_or_push xs x (whole_fraction (pos 0)) k (sym e))) h
-        | inr other ↦
-            let b : k < length xs = omega (arith, length-append xs (x ∷ [])) in
-            subst IsReduced (sym (get_or_append_left xs (x ∷ []) (whole_fraction (pos 0)) k b)) (hx.each k b)
-      ];
-}
 
 -- at the exit of a `?`
 pub on_err : {T E : Type 0} (r : Result T E) (P : Type 0) → P → OnErr r P

@@ -9,7 +9,7 @@ use Rattle.std.specs.List.{range_with_len}
 use Rattle.std.proofs.lemmas.List.FromFn.{map-range_with_len_more, length-map-range_with_len}
 use Rattle.std.proofs.lemmas.List.{drop_more, length-map}
 use Rattle.bl_simplex.specs.Fractions.{Fraction, whole_fraction}
-use Rattle.bl_elimination.specs.Elimination.{without, reduced, cleared, identity_parts, candidate}
+use Rattle.bl_elimination.specs.Elimination.{without, reduced, cleared, candidate}
 use Rattle.bl_elimination.proofs.Numbers.{joined-some, joined-none_left, joined-none_right}
 
 -- the row at a place
@@ -40,13 +40,6 @@ pub cleared-none : (c : ℕ) (by : List Fraction) (rows : List (List Fraction)) 
 cleared-none c by [] k l h = absurd (omega arith)
 cleared-none c by (row ∷ rows) zero l h = joined-none_left _ _ h
 cleared-none c by (row ∷ rows) (suc k) l h = joined-none_right _ _ (cleared-none c by rows k (omega arith) h)
-
-pub identity_parts_more : (n : ℕ) (rows : List (List Fraction)) (parts : List Fraction) (i : ℕ) → i < length rows
-    → parts ++ identity_parts n (drop i rows)
-    ≡ (parts ++ drop n (row_at rows i)) ++ identity_parts n (drop (i + 1) rows)
-identity_parts_more n rows parts i h =
-    ap (λ rs. parts ++ identity_parts n rs) (drop_more rows i [] h)
-    ∙ sym (append_assoc parts (drop n (row_at rows i)) (identity_parts n (drop (i + 1) rows)))
 
 -- a place read with another default
 pub other_default : (rows : List (List Fraction)) (k : ℕ) (d : List Fraction) → k < length rows

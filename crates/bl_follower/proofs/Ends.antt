@@ -1,8 +1,7 @@
 -- What a search that has ended shows.
 use Rattle.std.proofs.Common.{◌≡◌, ℕ, List, [], arith}
-use Rattle.std.specs.Prelude.{ℤ, Option, Some, None, false, true}
+use Rattle.std.specs.Prelude.{ℤ, Option, Some, None, false}
 use Rattle.bl_terms.specs.Programs.{Program}
-use Rattle.bl_terms.specs.Responses.{IsLink}
 use Rattle.bl_model.specs.View.{IsModel}
 use Rattle.bl_fproof.specs.Entries.{whole_problem}
 use Rattle.bl_fproof.proofs.Truth.{best_is_shown, none_is_shown}
@@ -11,7 +10,6 @@ use Rattle.bl_follower_tree.proofs.Growth.{grown_closes}
 use Rattle.bl_follower.specs.declared.response.Response.{Response}
 use Rattle.bl_follower.specs.Search.{IsUnderWay}
 use Rattle.bl_follower.specs.Answers.{IsSolved}
-use Rattle.bl_follower.specs.Exhausted.{IsExhausted}
 use Rattle.bl_follower.specs.Ends.{solved_by}
 
 pub search_solves : (p : Program) (l : List ℤ) (budget : ℕ) (found : Option Response) (g : Grown) → IsModel p
@@ -35,15 +33,3 @@ search_solves p l budget (Some r) g m h e =
       finished = so_far.finished;
       few = let within = h.within in omega arith;
     }
-
-pub search_exhausts : (p : Program) (l : List ℤ) (budget : ℕ) (found : Option Response) (g : Grown) → IsModel p
-    → IsLink p l → IsUnderWay (whole_problem p l) budget found g [] → g.left ≡ true
-    → IsExhausted (record { program = p; link = l; budget = budget; nodes = g.nodes; cutoffs = g.cutoffs })
-search_exhausts p l budget found g m is h e = record {
-  model = m;
-  link = is;
-  tree = h.grown.licensed;
-  left = h.grown.left e;
-  most = let within = h.within in omega arith;
-  least = let full = (h.full e).0 in omega arith;
-}

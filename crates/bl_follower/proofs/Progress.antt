@@ -1,7 +1,6 @@
 -- The search goes on: what is kept where a box is shut, split or left open.
-use Rattle.std.proofs.Common.{◌≡◌, ℕ, ◌+◌, ◌≤◌, List, [], ◌∷◌, ◌++◌, length, sym, ◌∙◌, ap, subst, arith, inl, inr}
-use Rattle.std.specs.Prelude.{ℤ, Option, Some, None, reverse}
-use Rattle.std.proofs.lemmas.Bool.{false≢true}
+use Rattle.std.proofs.Common.{◌≡◌, ℕ, ◌+◌, List, [], ◌∷◌, ◌++◌, length, sym, ◌∙◌, ap, subst, arith, inl, inr}
+use Rattle.std.specs.Prelude.{ℤ, Option, Some, reverse}
 use Rattle.std.proofs.lemmas.Int.{ints}
 use Rattle.std.proofs.lemmas.List.{length-append, length-reverse}
 use Rattle.bl_terms.specs.Points.{Area, IsOnePoint}
@@ -10,10 +9,9 @@ use Rattle.bl_terms.specs.Trees.{CanSplit, low_half, high_half}
 use Rattle.bl_licence.specs.declared.why.Why.{Why}
 use Rattle.bl_licence.specs.Why.{IsLicence}
 use Rattle.bl_fproof.proofs.Walks.{top_first}
-use Rattle.bl_fproof.specs.Stacks.{IsPart}
 use Rattle.bl_follower_tree.specs.declared.licensed.LicensedNode.TheVariants as node
-use Rattle.bl_follower_tree.specs.Growth.{Grown, IsGrown, beginning, shut_by, split_by, left_by}
-use Rattle.bl_follower_tree.proofs.Growth.{grown_at_start, grown_by_shut, grown_by_split, grown_by_leave, grown_below}
+use Rattle.bl_follower_tree.specs.Growth.{Grown, IsGrown, shut_by, split_by, left_by}
+use Rattle.bl_follower_tree.proofs.Growth.{grown_by_shut, grown_by_split, grown_by_leave, grown_below}
 use Rattle.bl_follower_tree.proofs.Growth.{room_for_split}
 use Rattle.bl_follower.specs.declared.response.Response.{Response}
 use Rattle.bl_follower.specs.Search.{cutoff_of, IsLowerBest, IsUnderWay, IsSplitOrLeft, IsOneMore}
@@ -25,15 +23,6 @@ one_longer xs x = length-append xs (x ∷ [])
 not_one_point : (a : Area) (j : ℕ) (v : ℤ) → CanSplit a j v → ¬ IsOnePoint a
 not_one_point a j v can one =
     let fixed = one.fixed j can.column in let least = can.least in let below = can.below in omega (arith, ints)
-
-pub search_starts : (q : Problem) (budget : ℕ) → IsPart q q.area → 1 ≤ budget
-    → IsUnderWay q budget None (beginning q.area) (q.area ∷ [])
-search_starts q budget part some = record {
-  grown = grown_at_start q part;
-  best = tt;
-  within = omega arith;
-  full = λ e. absurd (false≢true e);
-}
 
 -- the grown tree at the new cutoff
 lower : (q : Problem) (budget : ℕ) (found new : Option Response) (g : Grown) (boxes : List Area)

@@ -96,11 +96,3 @@ height_falls q (Some r) v f h fits less =
     let new = height_by v fits in
     let old = height_by r.value (value_fits q r.point r.value f h) in
     omega (arith, ints)
-
-pub better_falls : (q : Problem) (a : Area) (best : Option Response) (r : Response) (z : List ℤ) → IsPart q a
-    → IsBestSoFar q best → IsBetterPoint (over q a) (cutoff_of best) z
-    → r ≡ record { point = z; value = dot q.cost z } → height (cutoff_of (Some r)) < height (cutoff_of best)
-better_falls q a best r z part h better e =
-    let inside = (point_of_whole q a z part better.point).inside in
-    subst (λ r. height (cutoff_of (Some r)) < height (cutoff_of best)) (sym e)
-    (height_falls q best (dot q.cost z) part.fits h (cost_fits q z part.fits inside) better.cost)

@@ -1,12 +1,12 @@
 -- Values at places are as small as all values, and their products add up.
-use Rattle.std.proofs.Common.{◌≡◌, ℕ, ◌+◌, ◌<◌, ◌≤◌, List, length, ℤ, sym, ◌∙◌, ap, arith, add-one}
+use Rattle.std.proofs.Common.{◌≡◌, ℕ, ◌+◌, ◌<◌, ◌≤◌, List, length, ℤ, sym, ap, arith, add-one}
 use Rattle.std.specs.Prelude.{◌+ℤ◌, ◌*ℤ◌, slice_index, FitsSigned}
 use Rattle.std.specs.Int.{w64}
 use Rattle.std.proofs.lemmas.List.{length-map}
 use Rattle.bl_limits.specs.declared.TheConstants.{MAX_COLUMNS, MAX_NUMBER}
 use Rattle.bl_whole.specs.Sums.{component, sum_below}
-use Rattle.bl_whole.specs.Within.{IsWithin, AreWithin}
-use Rattle.bl_whole.proofs.WithinLemmas.{within_entry, dots_fit, product_fits}
+use Rattle.bl_whole.specs.Within.{AreWithin}
+use Rattle.bl_whole.proofs.WithinLemmas.{within_entry, dots_fit}
 use Rattle.bl_terms.specs.Points.{values_at}
 use Rattle.bl_terms.proofs.PlaceLemmas.{values_at-entry}
 
@@ -16,12 +16,6 @@ values_within m cs ks h = record {
       let b' : k < length ks = rw length-map at b in
       rw (values_at-entry cs ks k b') (within_entry h (slice_index ks k));
 }
-
--- the product at place j, and the sum of the first ones with it, fit 64 bits
-pub pick_product_fits : (cs zs : List ℤ) (ks : List ℕ) (j : ℕ) → AreWithin MAX_NUMBER cs → AreWithin MAX_NUMBER zs
-    → FitsSigned w64 (component cs (slice_index ks j) *ℤ component zs j)
-pick_product_fits cs zs ks j c z =
-    product_fits w64 (within_entry c (slice_index ks j)) (within_entry z j) (omega arith)
 
 pub pick_sum_fits : (cs zs : List ℤ) (ks : List ℕ) (j : ℕ) → AreWithin MAX_NUMBER cs → AreWithin MAX_NUMBER zs
     → length ks ≤ MAX_COLUMNS → j < length ks

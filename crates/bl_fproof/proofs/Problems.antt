@@ -1,61 +1,30 @@
 -- The follower's problem fits, over its whole box and over a part of it.
-use Rattle.std.proofs.Common.{◌≡◌, ℕ, zero, suc, ◌+◌, ◌*◌, ◌^◌, ◌<◌, ◌≤◌, List, [], ◌∷◌, length, Bool, true, false}
-use Rattle.std.proofs.Common.{refl, sym, ◌∙◌, ap, arith, cond, add-one}
+use Rattle.std.proofs.Common.{◌≡◌, ℕ, zero, suc, ◌+◌, ◌<◌, ◌≤◌, List, [], ◌∷◌, length, Bool, true, false}
+use Rattle.std.proofs.Common.{sym, ◌∙◌, arith, cond, add-one}
 use Rattle.std.specs.Prelude.{ℤ, ◌-ℤ◌, Contains, slice_index, slice_index_or, All, FitsSigned}
 use Rattle.std.specs.Int.{w64}
 use Rattle.std.proofs.lemmas.List.Elements.{Contains-get_or}
 use Rattle.std.specs.List.Sorted.{IsStrictlyIncreasing}
 use Rattle.std.proofs.lemmas.Int.{ints}
 use Rattle.std.proofs.lemmas.List.{length-map}
-use Rattle.bl_limits.specs.declared.TheConstants.{MAX_COLUMNS, MAX_ROWS, MAX_NUMBER, MAX_RHS}
-use Rattle.bl_limits.specs.declared.TheConstants.{MAX_PROBLEM_ROWS, MAX_PROBLEM_COEFFICIENT, MAX_PROBLEM_RHS}
+use Rattle.bl_limits.specs.declared.TheConstants.{MAX_COLUMNS, MAX_NUMBER, MAX_RHS}
+use Rattle.bl_limits.specs.declared.TheConstants.{MAX_PROBLEM_COEFFICIENT, MAX_PROBLEM_RHS}
 use Rattle.bl_whole.specs.Sums.{component, dot}
 use Rattle.bl_whole.specs.Within.{IsWithin, AreWithin}
-use Rattle.bl_whole.proofs.WithinLemmas.{within_entry, within_high, within_low, within_from_bounds, within_more}
+use Rattle.bl_whole.proofs.WithinLemmas.{within_high, within_low, within_from_bounds, within_more}
 use Rattle.bl_whole.proofs.WithinLemmas.{within_difference, within_dot, fits_from_within}
 use Rattle.bl_terms.proofs.FollowerProofLemmas.{follower_box-area}
-use Rattle.bl_terms.specs.Points.{Area, IsArea, IsWithinArea, Linear, values_at}
-use Rattle.bl_terms.specs.Bounds.{Problem, Fits, IsProblem, linear_at, over}
-use Rattle.bl_terms.specs.Programs.{Program, IsProgram, Row, row_at, columns}
+use Rattle.bl_terms.specs.Points.{Linear, values_at}
+use Rattle.bl_terms.specs.Bounds.{Fits, linear_at}
+use Rattle.bl_terms.specs.Programs.{Program, Row, row_at, columns}
 use Rattle.bl_terms.specs.Responses.{IsLink}
-use Rattle.bl_terms.specs.FollowerProofs.{follower_row, follower_rows, follower_box}
-use Rattle.bl_terms.proofs.PlaceLemmas.{Contains-at, values_at-entry}
+use Rattle.bl_terms.specs.FollowerProofs.{follower_row, follower_rows}
+use Rattle.bl_terms.proofs.PlaceLemmas.{Contains-at}
 use Rattle.bl_model.specs.View.{IsModel}
 use Rattle.bl_fproof.specs.Entries.{whole_problem}
 use Rattle.bl_fproof.proofs.Picks.{values_within}
 
 -- ---- over a part
-
-part_within : (q : Problem) (a : Area) → Fits q → IsArea a → IsWithinArea a q.area → (k : ℕ) → k < length a.lo
-    → IsWithin MAX_NUMBER (component a.lo k) × IsWithin MAX_NUMBER (component a.hi k)
-part_within q a f is within k b =
-    let e = within.columns in
-    let least = within.least k (omega arith) in
-    let most = within.most k (omega arith) in
-    let order = is.ordered k b in
-    let low = within_low (within_entry f.lower_bounds k) in
-    let high = within_high (within_entry f.upper_bounds k) in (
-      within_from_bounds MAX_NUMBER (component a.lo k) (omega (arith, ints)) (omega (arith, ints)),
-      within_from_bounds MAX_NUMBER (component a.hi k) (omega (arith, ints)) (omega (arith, ints)),
-    )
-
-pub over_fits : (q : Problem) (a : Area) → Fits q → IsArea a → IsWithinArea a q.area → Fits (over q a)
-over_fits q a f is within =
-    let e = within.columns in
-    record {
-      shape = record {
-        box = is;
-        cost_columns = f.shape.cost_columns ∙ sym e;
-        row_columns = λ i b. f.shape.row_columns i b ∙ sym e;
-      };
-      few_columns = let few = f.few_columns in omega arith;
-      few_rows = f.few_rows;
-      coefs = f.coefs;
-      rhs = f.rhs;
-      costs = f.costs;
-      lower_bounds = record { each = λ k b. (part_within q a f is within k b).0 };
-      upper_bounds = record { each = λ k b. (part_within q a f is within k (let s = is.sides in omega arith)).1 };
-    }
 
 -- ---- the places of a list that rises and stays below n are at most n
 

@@ -1,16 +1,15 @@
 -- A walk over the nodes of a tree, step by step on the stack of the boxes that are still to be closed.
 use Rattle.std.proofs.Common.{◌≡◌, ℕ, zero, suc, ◌+◌, ◌<◌, List, [], ◌∷◌, length, refl, sym, ◌∙◌, ap, subst, arith}
 use Rattle.std.proofs.Common.{add-one}
-use Rattle.std.specs.Prelude.{Option, ℤ, drop, All, reverse, ◌++◌, slice_index_or, Bool, true, false, IsTrue, ◌↔◌}
+use Rattle.std.specs.Prelude.{Option, ℤ, drop, All, reverse, ◌++◌, slice_index_or, true}
 use Rattle.std.proofs.lemmas.List.{reverse-append, length-append, length-map, get_or_append_left, get_or-map}
 use Rattle.std.proofs.Math.ListN.{get_or}
 use Rattle.std.proofs.lemmas.List.Elements.{All-append}
-use Rattle.std.proofs.lemmas.Bool.{false≢true}
 use Rattle.std.proofs.Math.Seq.{get_or-append_seam}
 use Rattle.std.proofs.Math.Seq.{drop-length, drop-cons}
-use Rattle.bl_terms.specs.Points.{Area, IsArea, IsWithinArea}
+use Rattle.bl_terms.specs.Points.{Area}
 use Rattle.bl_terms.specs.Bounds.{Problem, Multipliers, Proves, over}
-use Rattle.bl_terms.specs.Trees.{BareNode, Node, Leaf, Split, Anything, CanSplit, Covers, FailsFirst, low_half}
+use Rattle.bl_terms.specs.Trees.{BareNode, Leaf, Split, Anything, CanSplit, Covers, FailsFirst, low_half}
 use Rattle.bl_terms.specs.Trees.{high_half}
 use Rattle.bl_terms.specs.Trees.{IsTree}
 use Rattle.bl_terms.proofs.TreeLemmas.{leaves_are_parts}
@@ -89,17 +88,6 @@ one_part : (q : Problem) (a : Area) → IsPart q a → All (IsPart q) (a ∷ [])
 one_part q a part zero d b = part
 one_part q a part (suc k) d b = absurd (omega arith)
 
-pub step_shut : (q : Problem) (u : Option ℤ) (w : Multipliers) (a : Area) (rest : List Area) (shut : Bool)
-    → All (IsPart q) (rest ++ a ∷ []) → IsTrue shut ↔ Proves (over q a) u w
-    → IsStepTaken q u (Leaf w) (rest ++ a ∷ []) rest shut
-step_shut q u w a rest shut all h =
-    let top = sym (top_first a rest) in
-    record {
-      verdict = subst (λ s. IsTrue shut ↔ Stands q u (Leaf w) s) top h;
-      after = λ _. subst (λ s. reverse rest ≡ stack_after (Leaf w) s) top refl;
-      parts = λ _. parts_below q a rest all;
-    }
-
 pub step_split : (q : Problem) (u : Option ℤ) (j : ℕ) (v : ℤ) (a low high : Area) (rest : List Area)
     → All (IsPart q) (rest ++ a ∷ []) → AreHalves a j v (low, high)
     → IsStepTaken q u (Split j v tt) (rest ++ a ∷ []) ((rest ++ high ∷ []) ++ low ∷ []) true
@@ -120,24 +108,6 @@ step_split q u j v a low high rest all h =
           (All-append (IsPart q) rest (high ∷ []) below (one_part q high high_part)) (one_part q low low_part);
     }
 
-pub step_stuck : (q : Problem) (u : Option ℤ) (j : ℕ) (v : ℤ) (a : Area) (rest : List Area) → ¬ CanSplit a j v
-    → IsStepTaken q u (Split j v tt) (rest ++ a ∷ []) rest false
-step_stuck q u j v a rest h = record {
-  verdict = (
-    λ f. absurd (false≢true f),
-    λ stands. absurd (h (subst (λ s. Stands q u (Split j v tt) s) (top_first a rest) stands)),
-  );
-  after = λ f. absurd (false≢true f);
-  parts = λ f. absurd (false≢true f);
-}
-
-pub step_without_box : (q : Problem) (u : Option ℤ) (n : BareNode Multipliers) → IsStepTaken q u n [] [] false
-step_without_box q u n = record {
-  verdict = (λ f. absurd (false≢true f), λ stands. absurd stands);
-  after = λ f. absurd (false≢true f);
-  parts = λ f. absurd (false≢true f);
-}
-
 -- ---- the walk so far
 
 -- what the nodes from place i on show of the stack is shown of the whole
@@ -145,13 +115,6 @@ pub record IsWalked (q : Problem) (u : Option ℤ) (nodes : List (BareNode Multi
     : Type 0 where
   pub covers : CoversStack q u (drop i nodes) stack → Closes q u nodes
   pub fails : (k : ℕ) → FailsOnStack q u (drop i nodes) stack k → FailsToClose q u nodes (i + k)
-
-pub walk_starts : (q : Problem) (u : Option ℤ) (nodes : List (BareNode Multipliers))
-    → IsWalked q u nodes 0 (q.area ∷ [])
-walk_starts q u nodes = record {
-  covers = λ c. c;
-  fails = λ k f. subst (λ m. FailsToClose q u nodes m) (omega arith) f;
-}
 
 pub walk_goes_on : (q : Problem) (u : Option ℤ) (nodes : List (BareNode Multipliers)) (i : ℕ) (n : BareNode Multipliers)
     (stack : List Area) → IsWalked q u nodes i stack → drop i nodes ≡ n ∷ drop (i + 1) nodes → Stands q u n stack
@@ -172,11 +135,6 @@ walk_fails q u nodes i n stack walked e not =
     subst (λ m. FailsToClose q u nodes m) (omega arith)
     (walked.fails 0
     (subst (λ ns. FailsOnStack q u ns stack 0) (sym e) (fails_here q u n (drop (i + 1) nodes) stack not)))
-
--- after the last node: all is covered where the stack is empty, else the list ended early
-pub walk_ends : (q : Problem) (u : Option ℤ) (nodes : List (BareNode Multipliers))
-    → IsWalked q u nodes (length nodes) [] → Closes q u nodes
-walk_ends q u nodes walked = walked.covers (subst (λ ns. CoversStack q u ns []) (sym (drop-length nodes)) tt)
 
 pub walk_ends_early : (q : Problem) (u : Option ℤ) (nodes : List (BareNode Multipliers)) (n : ℕ) (stack : List Area)
     → IsWalked q u nodes n stack → n ≡ length nodes → 0 < length stack → FailsToClose q u nodes n

@@ -2,7 +2,7 @@
 use Rattle.std.proofs.Common.{◌≡◌, ℕ, sym, ◌∙◌, ap, subst, arith, List}
 use Rattle.std.specs.Prelude.{ℤ, Option, Some, None, MatchOption}
 use Rattle.std.proofs.lemmas.Int.{ints}
-use Rattle.bl_terms.specs.Points.{Area, Fixes}
+use Rattle.bl_terms.specs.Points.{Area}
 use Rattle.bl_terms.specs.Programs.{Program}
 use Rattle.bl_bound.specs.Plain.{CostsLess}
 use Rattle.bl_licence.specs.declared.why.Why.{Why}
@@ -12,7 +12,7 @@ use Rattle.bl_model.specs.Boxes.{Halved}
 use Rattle.bl_fproof.specs.Entries.{Admitted}
 use Rattle.bl_cut_terms.specs.NoGoods.{NoGoodCut}
 use Rattle.bl_leaf_terms.specs.Incumbents.{Incumbent, cost_of, cutoff_of}
-use Rattle.bl_leaf_terms.specs.Nodes.{plain_problem, HasValue, IsFreeLicence, IsLicensedBox, NodeLicence}
+use Rattle.bl_leaf_terms.specs.Nodes.{plain_problem, IsFreeLicence, IsLicensedBox, NodeLicence}
 use Rattle.bl_leaf_terms.specs.Nodes.{IsNodeLicence}
 use Rattle.bl_book_terms.specs.Books.{IsCurrent}
 use Rattle.bl_node.specs.Works.{Job, IsSoundJob, IsDividing}
@@ -28,17 +28,6 @@ free_licence p a u (Better z y) h = absurd h
 free_licence p a u (Wide pivots row column) h = h
 free_licence p a u (Tired pivots) h = h
 free_licence p a u (Large pivots) h = h
-
-pub licensed_free : (p : Program) (a : Area) (u : Option ℤ) (entry : Option Admitted) (why : Why)
-    → ¬ Fixes a p.links → IsFreeLicence p a u why → IsLicensedBox p a u entry why
-licensed_free p a u entry why free h = record { free = λ _. h; fixed = λ fixes. absurd (free fixes) }
-
-pub licensed_fixed : (p : Program) (a : Area) (u : Option ℤ) (e : Admitted) (v : ℤ) (why : Why) → HasValue p a e v
-    → IsLicence (plain_problem p a (Some v)) u why → IsLicensedBox p a u (Some e) why
-licensed_fixed p a u e v why has h = record {
-  free = λ free. absurd (free has.fixes);
-  fixed = λ _. record { value = v; has = has; licence = h };
-}
 
 -- the cutoff of what is found is current
 current_found : (best found : Option Incumbent)

@@ -1,16 +1,15 @@
 -- Links of points of the job's box, and how the follower's solver fails there.
-use Rattle.std.proofs.Common.{◌≡◌, ℕ, ◌<◌, refl, sym, subst, arith, List, length}
+use Rattle.std.proofs.Common.{◌≡◌, ℕ, ◌<◌, sym, subst, arith, List, length}
 use Rattle.std.specs.Prelude.{ℤ, slice_index, Option, Some, None, Result, Ok, Err, IfErr}
 use Rattle.std.specs.Result.{IsErrAnd}
 use Rattle.bl_terms.specs.Points.{Area, InArea, IsWithinArea, IsOnePoint, Fixes}
 use Rattle.bl_terms.specs.Programs.{Program, IsProgram, columns, root, link_of}
 use Rattle.bl_terms.proofs.PlaceLemmas.{values_at-entry}
-use Rattle.bl_model.proofs.BoxLemmas.{links_below, low_point}
+use Rattle.bl_model.proofs.BoxLemmas.{links_below}
 use Rattle.bl_fproof.specs.Entries.{Admitted}
 use Rattle.bl_follower.specs.declared.solve.FollowerFail.{FollowerFail}
 use Rattle.bl_follower.specs.declared.solve.FollowerFail.TheVariants as fails
 use Rattle.bl_follower.specs.Answers.{IsFailure}
-use Rattle.bl_leaf_terms.specs.Nodes.{fixed_link}
 use Rattle.bl_source.specs.Sources.{KeepsEntries}
 use Rattle.bl_node.specs.declared.nodes.WorkFail.{WorkFail}
 use Rattle.bl_node.specs.Works.{Job, IsSoundJob, IsLinkOfBox, IsWorkFailure, fails_as}
@@ -44,11 +43,6 @@ fails_at j z budget (fails.Spent s) job inside h = record {
 }
 fails_at j z budget fails.Memory job inside h = tt
 
--- ... and at the link that it fixes
-pub fails_fixed : (j : Job) (budget : ℕ) (fail : FollowerFail) → IsSoundJob j
-    → IsFailure j.program (fixed_link j.program j.area) budget fail → IsWorkFailure j budget (fails_as fail)
-fails_fixed j budget fail job h = fails_at j j.area.lo budget fail job (low_point j.area job.area) h
-
 -- a failure of the follower's solver as one of the work
 pub err_as : {T : Type 0} (r : Result T WorkFail) (j : Job) (budget : ℕ) (fail : WorkFail)
     → IsErrAnd r (λ e. e ≡ fail) → IsWorkFailure j budget fail → IfErr r (IsWorkFailure j budget)
@@ -62,10 +56,6 @@ one_point_fixes p a g within one =
     record { fixed = λ i b. one.fixed (slice_index p.links i) (link_there p a i g within b) }
 
 -- ---- entries stay
-
-pub keeps_itself : (held : Option (List Admitted)) → KeepsEntries held held
-keeps_itself None = refl
-keeps_itself (Some entries) = λ e there. there
 
 pub keeps_more : (a b c : Option (List Admitted)) → KeepsEntries a b → KeepsEntries b c → KeepsEntries a c
 keeps_more None None c g h = h

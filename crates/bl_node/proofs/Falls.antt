@@ -1,6 +1,6 @@
 -- How far the cutoff can fall: the costs of incumbents are small.
-use Rattle.std.proofs.Common.{◌≡◌, ◌≢◌, ◌^◌, ◌<◌, ◌≤◌, ◌∙◌, List, refl, sym, ap, subst, arith}
-use Rattle.std.specs.Prelude.{ℤ, pos, ◌≤ℤ◌, ◌<ℤ◌, ◌+ℤ◌, Option, Some, None}
+use Rattle.std.proofs.Common.{◌≡◌, ◌^◌, ◌<◌, ◌≤◌, List, sym, subst, arith}
+use Rattle.std.specs.Prelude.{ℤ, pos, ◌<ℤ◌, ◌+ℤ◌, Option, Some, None}
 use Rattle.std.proofs.lemmas.Int.{ints, by_lt_z}
 use Rattle.bl_limits.specs.declared.TheConstants.{MAX_NUMBER}
 use Rattle.bl_whole.specs.Within.{IsWithin, AreWithin}
@@ -80,25 +80,6 @@ pub taken_falls : (j : Job) (old new : Option Incumbent) (f : Incumbent) → IsS
 taken_falls j old new f job is is' taken less =
     judged_falls j old new (cost_of f) job is is' less
     (subst (λ (o : Option Incumbent). ¬ CostsLess (cutoff_with j o) (cost_of f)) (sym taken) (not_itself (cost_of f)))
-
--- a cutoff that isn't higher and isn't the same is lower
-le_antisym : (u v : ℤ) → u ≤ℤ v → v ≤ℤ u → u ≡ v
-le_antisym u v g h = omega (arith, ints)
-
-other_falls : (u v : Option ℤ) → IsSmallValue u → IsSmallValue v → IsNoHigher u v → u ≢ v → height v < height u
-other_falls None None small small' lower other = absurd (other refl)
-other_falls None (Some v) small small' lower other = first_height v small'
-other_falls (Some u) None small small' lower other = absurd lower
-other_falls (Some u) (Some v) small small' lower other =
-    by_lt_z v u (λ less. lower_height v u small' small less)
-    (λ more. absurd (other (ap Some (le_antisym u v more lower))))
-
-pub cutoff_falls : (j : Job) (old new : Option Incumbent) (u v : Option ℤ) → IsSoundJob j → IsFound j old
-    → IsFoundAfter j old new → u ≡ cutoff_with j old → v ≡ cutoff_with j new → u ≢ v
-    → height (cutoff_with j new) < height (cutoff_with j old)
-cutoff_falls j old new u v job is after eu ev other =
-    other_falls (cutoff_with j old) (cutoff_with j new) (small_cutoff j old job is)
-    (small_cutoff j new job after.found) after.lower (λ same. other (eu ∙ same ∙ sym ev))
 
 -- what doesn't fall isn't higher
 height_no_higher : (u v : Option ℤ) → IsSmallValue u → IsSmallValue v → IsNoHigher u v → height v ≤ height u

@@ -1,7 +1,7 @@
 -- The cuts at a node, when one more is made.
-use Rattle.std.proofs.Common.{◌≡◌, ◌≢◌, ◌<◌, ◌⊎◌, ℕ, refl, sym, subst, ap, ◌∙◌, arith, inl, inr, true, false}
+use Rattle.std.proofs.Common.{◌≡◌, ◌≢◌, ◌<◌, ℕ, refl, sym, subst, ap, ◌∙◌, arith, inl, inr, true, false}
 use Rattle.std.proofs.Common.{List, [], ◌∷◌, ◌++◌, length, cond, Bool}
-use Rattle.std.specs.Prelude.{ℤ, All, nat_lt, drop, Option}
+use Rattle.std.specs.Prelude.{ℤ, All, nat_lt, drop}
 use Rattle.std.proofs.lemmas.Bool.{lt-ltb, false≢true}
 use Rattle.std.proofs.lemmas.List.{get_or_push, get_or_append_left, get_or_default, length_push}
 use Rattle.std.proofs.lemmas.List.Elements.{All-push, All-drop}
@@ -9,10 +9,8 @@ use Rattle.std.proofs.lemmas.List.Quantifiers.{all_pairs_push}
 use Rattle.bl_limits.specs.declared.TheConstants.{MAX_CUTS, MAX_NEW_CUTS, CUT_NODES}
 use Rattle.bl_terms.specs.Points.{Area, IsWithinArea, Meets}
 use Rattle.bl_terms.specs.Programs.{Program}
-use Rattle.bl_terms.specs.Bounds.{Problem}
 use Rattle.bl_licence.specs.declared.why.Why.{Why}
-use Rattle.bl_licence.specs.declared.why.Why.TheVariants.{Fraction, Better, Wide, Tired, Large}
-use Rattle.bl_licence.specs.Why.{IsLicence}
+use Rattle.bl_licence.specs.declared.why.Why.TheVariants.{Better}
 use Rattle.bl_terms.proofs.PointLemmas.{part_of_itself}
 use Rattle.bl_cut_terms.specs.NoGoods.{NoGoodCut, cut_of}
 use Rattle.bl_cut_terms.specs.declared.parts.Tight.TheVariants.{Cut}
@@ -22,7 +20,7 @@ use Rattle.bl_nogood.specs.declared.no_cut.NoCut.TheVariants.{TooLarge}
 use Rattle.bl_nogood.specs.Making.{IsCutAt, IsNoCut, IsTooLarge}
 use Rattle.bl_node.specs.NodeCuts.{BreaksAt, BreaksOne, point_of, IsOwnCut, AreMade, with_cuts, IsNotMade, IsTried}
 use Rattle.bl_node.specs.Works.{Job}
-use Rattle.bl_node.specs.Standing.{AreNodeCuts, IsTriedAt, StayBroken, IsAttempt}
+use Rattle.bl_node.specs.Standing.{AreNodeCuts, IsTriedAt, IsAttempt}
 
 -- few cuts keep their first one when another is added
 with_few : (cuts : List NoGoodCut) (c : NoGoodCut) → length cuts < MAX_NEW_CUTS → with_cut cuts c ≡ cuts ++ c ∷ []
@@ -165,23 +163,7 @@ of_program p q a cuts usable usable' k c d all is e there same eu =
     (few_of_program p usable (nat_lt (length usable) MAX_CUTS) all)
     (ap (λ (x : NoGoodCut). x.program) (same ∙ there) ∙ is.model ∙ e))
 
--- a point that a cut takes away was tried, also when further cuts are made
-pub taken_away : (j : Job) (made made' : List NoGoodCut) (z : List ℤ)
-    → BreaksOne j.program j.area j.cuts z ⊎ BreaksOne j.program j.area made z → StayBroken j made made'
-    → IsTriedAt j made' z
-taken_away j made made' z (inl b) stay = λ node. inl b
-taken_away j made made' z (inr b) stay = λ node. inr (inl (stay z b))
-
 pub tried_better : (j : Job) (made : List NoGoodCut) (why : Why) (z y x : List ℤ) → why ≡ Better z y → x ≡ z
     → IsTriedAt j made x → IsTried j.program j.area j.node j.cuts made why
 tried_better j made why z y x e f h =
     subst (IsTried j.program j.area j.node j.cuts made) (sym e) (subst (IsTriedAt j made) f h)
-
--- a licence that isn't a better response asks for none
-pub tried_fixed : (j : Job) (made : List NoGoodCut) (q : Problem) (u : Option ℤ) (why : Why) → IsLicence q u why
-    → IsTried j.program j.area j.node j.cuts made why
-tried_fixed j made q u (Fraction fs) h = tt
-tried_fixed j made q u (Better z y) h = absurd h
-tried_fixed j made q u (Wide pivots row column) h = tt
-tried_fixed j made q u (Tired pivots) h = tt
-tried_fixed j made q u (Large pivots) h = tt

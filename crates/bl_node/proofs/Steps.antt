@@ -63,10 +63,6 @@ no_higher_more (Some x) None w g h = absurd g
 no_higher_more (Some x) (Some y) None g h = absurd h
 no_higher_more (Some x) (Some y) (Some z) g h = omega (arith, ints)
 
--- nothing is found
-pub nothing_found : (j : Job) → IsFound j None
-nothing_found j = record { incumbent = tt; better = tt }
-
 pub found_itself : (j : Job) (found : Option Incumbent) → IsFound j found → IsFoundAfter j found found
 found_itself j found is = record { found = is; lower = no_higher_itself (cutoff_with j found) }
 

@@ -20,9 +20,6 @@ steps_one_more : (q : Problem) (u : Option ℤ) (d : Dictionary) (ps : List (ℕ
 steps_one_more q u d [] p h step = (step, tt)
 steps_one_more q u d (o ∷ os) p h step = (h.0, steps_one_more q u (pivoted d o.0 o.1) os p h.1 step)
 
-dictionary_is : (q : Problem) (run : Run) → run.problem ≡ q → current run ≡ replay (opening q) run.pivots
-dictionary_is q run e = ap (λ p. replay (opening p) run.pivots) e
-
 pub begins : (q : Problem) (u : Option ℤ) (run : Run) (n : ℕ)
     → run ≡ record { problem = q; most = n; pivots = []; spent = false } → IsRunOfSteps q u run
 begins q u run n e = record {

@@ -1,5 +1,4 @@
 pub mod CertLemmas
-pub mod CheckLemmas
 pub mod OutcomeLemmas
 pub mod PromiseLemmas
 pub mod SolveLemmas

@@ -1,5 +1,5 @@
 -- From the outcome of a search to what is said of it.
-use Rattle.std.proofs.Common.{◌≡◌, ℕ, ◌∙◌, List, length, ap, arith, refl, sym, subst}
+use Rattle.std.proofs.Common.{◌≡◌, ℕ, ◌∙◌, List, length, ap, arith, sym, subst}
 use Rattle.std.specs.Prelude.{ℤ, Option, None, Some, MatchOption}
 use Rattle.std.specs.Option.{option_map_or}
 use Rattle.bl_raw.specs.declared.raw.RawColumn.{RawColumn}
@@ -16,8 +16,7 @@ use Rattle.bl_core.specs.Accounts.{KeptBook, IsKept}
 use Rattle.bl_core.specs.Outcomes as search
 use Rattle.bl_cert_terms.specs.Certificates.{StatementHolds}
 use Rattle.bl_cert_book.specs.BookCertificates.{stated_by}
-use Rattle.bl_team.specs.declared.settings.Settings.{Settings}
-use Rattle.bl_team.specs.Answers.{EndsWithin, AreSettings, IsOutcomeFor}
+use Rattle.bl_team.specs.Answers.{EndsWithin, IsOutcomeFor}
 use Rattle.bl_run.specs.declared.status.Answer.{Answer}
 use Rattle.bl_run.specs.declared.status.Failure.{Failure}
 use Rattle.bl_run.specs.declared.status.Failure.TheVariants as failure
@@ -25,31 +24,9 @@ use Rattle.bl_run.specs.Words.{ModelWords}
 use Rattle.bl_run.specs.Endings.{Ending, NoPoint, Done, FollowerSpent}
 use Rattle.bl_run.specs.Promise.{EndsSpent}
 use Rattle.bl_run.specs.Solve.{Outcome, ShowsSpent, IsSolved, settings_of, ending_at, ending_of}
-use Rattle.bl_run.specs.Steps.{failure_ending, AreBudgets, IsCertText, IsReport, IsReportOf, IsSpent, FailsToSolve}
+use Rattle.bl_run.specs.Steps.{failure_ending, IsCertText, IsReport, IsReportOf, IsSpent, FailsToSolve}
 
 -- ---- settings
-
--- budgets within their limits are settings of one worker
-pub settings_within : (words : ModelWords) → AreBudgets words.nodes words.follower_nodes
-    → AreSettings (settings_of words)
-settings_within words h = record {
-  workers_least = omega arith;
-  workers_most = omega arith;
-  nodes_least = h.nodes_least;
-  nodes_most = h.nodes_most;
-  follower_least = h.follower_least;
-  follower_most = h.follower_most;
-}
-
--- an outcome for a program is one for its own
-pub own_outcome : (p : Program) (workers : ℕ) (s : Settings) (o : Outcome) → IsOutcomeFor p workers s o
-    → IsOutcomeFor o.book.ledger.book.program workers s o
-own_outcome p workers s o h = record {
-  program = refl;
-  workers = h.workers;
-  limit = h.limit;
-  end = subst (λ (q : Program). EndsWithin q s.nodes s.follower_nodes o.end) (sym h.program) h.end;
-}
 
 -- ---- what an outcome states
 

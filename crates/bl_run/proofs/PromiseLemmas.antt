@@ -1,7 +1,7 @@
 -- That a cause excludes the others, and from how a command ended to its promise.
 use Rattle.std.proofs.Common.{◌≡◌, ℕ, ◌+◌, ◌*◌, ◌≤◌, List, arith, refl, sym, ap, subst, ◌∙◌, ◌⊎◌, inl, inr, ⊎_elim, []}
 use Rattle.std.specs.Prelude.{Bool, ℤ, pos, Option, None, Some, unwrap_or}
-use Rattle.bl_outer.specs.Files.{Files, Holds, IsAbsent, IfTold}
+use Rattle.bl_outer.specs.Files.{Files, IsAbsent, IfTold}
 use Rattle.bl_outer.specs.Sink.{SinkState}
 use Rattle.bl_raw.specs.declared.raw.RawMps.{RawMps}
 use Rattle.bl_raw.specs.declared.raw.RawAux.{RawAux}
@@ -23,19 +23,17 @@ use Rattle.bl_check_terms.specs.declared.rule.CertRule.{CertRule}
 use Rattle.bl_check_terms.specs.Accepting.{Accepts, FirstRefusal}
 use Rattle.bl_check_terms.proofs.Verdict.{have_one_verdict}
 use Rattle.bl_team.specs.Answers.{EndsWithin}
-use Rattle.bl_run.specs.declared.status.Answer.{Answer}
-use Rattle.bl_run.specs.declared.status.Answer.TheVariants as answer
 use Rattle.bl_run.specs.Words.{ModelWords, AreAsked, AreRefused, said_of}
 use Rattle.bl_run.specs.Texts.{IsMpsText, IsMpsFault, IsAuxText, IsAuxFault, sizes, mps_rule, mps_place}
 use Rattle.bl_run.specs.Texts.{aux_rule, line_place, cert_rule}
-use Rattle.bl_run.specs.Endings.{Place, AsWhole, Ending, Done, NoPoint, BadWords, BadText, NodesSpent, FollowerSpent}
+use Rattle.bl_run.specs.Endings.{Place, Ending, Done, NoPoint, BadWords, BadText, NodesSpent, FollowerSpent}
 use Rattle.bl_run.specs.Endings.{ReadFault, WriteFault, OutOfMemory, NotAccepted, Missing, ManyPoints, ToFile, ToOutput}
 use Rattle.bl_run.specs.Endings.{status_of, line_of}
 use Rattle.bl_run.specs.Solve.{HasAux, HasMps, HasCert, cert_file, ReadsCert, IsMissing, ReadsBoth, ReadsMps}
-use Rattle.bl_run.specs.Solve.{RefusesAux, RefusesMps, RefusesText, RefusesCert, Run, program, IsSolved, IsWorked}
+use Rattle.bl_run.specs.Solve.{RefusesAux, RefusesMps, RefusesText, RefusesCert, Run, program, IsWorked}
 use Rattle.bl_run.specs.Solve.{Finishes, IsProvided, IsAmple, ending_at, ending_of, ending_by, EndsSo}
 use Rattle.bl_run.specs.Promise.{Outside, HasCause, ComesFirst, EndsInAnswer, EndsSpent, IsDue, Tells, Promise}
-use Rattle.bl_run.specs.Steps.{answer_ending, asked_by, EndsCommand}
+use Rattle.bl_run.specs.Steps.{asked_by, EndsCommand}
 use Rattle.bl_run.proofs.WordsLemmas.{says_once, one_name}
 use Rattle.bl_run.proofs.OutcomeLemmas.{answer_unspent}
 
@@ -529,10 +527,3 @@ promised does words old new old_err new_err ending status ends is told = record 
   leaves = ends.leaves;
   told = told;
 }
-
--- an answer has no line
-pub untold : (says : Answer) (err : SinkState) → Tells (line_of (answer_ending says)) err err
-untold answer.Optimal err = refl
-untold answer.Infeasible err = refl
-untold answer.Shown err = refl
-untold answer.Accepted err = refl

@@ -1,8 +1,7 @@
 -- From the steps of a command to how it ended.
-use Rattle.std.proofs.Common.{ap, ◌≡◌, ℕ, suc, ◌<◌, List, [], length, take, replicate, arith, refl, sym, subst, ◌∙◌}
+use Rattle.std.proofs.Common.{ap, ◌≡◌, ℕ, suc, ◌<◌, List, [], length, replicate, arith, refl, sym, subst, ◌∙◌}
 use Rattle.std.proofs.Common.{inl, inr, ◌⊎◌, ⊎_elim}
-use Rattle.std.specs.Prelude.{Bool, false, ℤ, true, nat_lt, pos, Option, None, Some, unwrap_or, Ok, Err, codes}
-use Rattle.std.specs.declared.result.Result.{Result}
+use Rattle.std.specs.Prelude.{Bool, false, ℤ, true, nat_lt, pos, Option, None, Some, unwrap_or, codes}
 use Rattle.std.proofs.lemmas.List.{length-replicate}
 use Rattle.std.proofs.lemmas.Bool.Decides.{nat_tests}
 use Rattle.bl_outer.specs.Count.{Grew}
@@ -16,7 +15,6 @@ use Rattle.bl_raw.specs.declared.raw.RawAux.{RawAux}
 use Rattle.bl_aux.specs.declared.fault.AuxRule.TheVariants.{TooLong}
 use Rattle.bl_aux.specs.Texts.{too_long}
 use Rattle.bl_model.specs.Build.{program_of}
-use Rattle.bl_book_terms.specs.Books.{Book}
 use Rattle.bl_core.specs.declared.outcome.Ended.TheVariants as ended
 use Rattle.bl_mps_terms.specs.declared.fault.MpsRule.TheVariants as mps
 use Rattle.bl_mps_terms.specs.Faults.{first_fault}
@@ -153,20 +151,6 @@ by_unread files name Bad P bad read memory missing failure.Memory h = memory
 by_unread files name Bad P bad read memory missing (failure.NotAccepted file line rule) h = absurd h
 by_unread files name Bad P bad read memory missing (failure.Missing file) h =
     subst (λ (n : List ℕ). P (Missing n)) (sym h.0) (missing h.1)
-
--- what a file that wasn't read at all says of any text that is refused
-pub unread : (files : Option Files) (name : List ℕ) (Bad : List ℕ → Place → List ℕ → Type 0) (failure : Failure)
-    → FailsToRead files name NoFault failure → FailsToRead files name Bad failure
-unread files name Bad failure.Words h = h
-unread files name Bad (failure.Text file fault) h = absurd h.1.is
-unread files name Bad (failure.NodesSpent budget made) h = h
-unread files name Bad (failure.FollowerSpent budget made link) h = h
-unread files name Bad (failure.ReadFault file) h = h
-unread files name Bad (failure.FileFault file) h = h
-unread files name Bad failure.WriteFault h = h
-unread files name Bad failure.Memory h = h
-unread files name Bad (failure.NotAccepted file line rule) h = h
-unread files name Bad (failure.Missing file) h = h
 
 -- ---- endings without a written byte
 
@@ -337,23 +321,6 @@ pub texts_stop : (command : Command) (said : Said) (old new : ShelfState) (out :
 texts_stop command said old new out failure why h =
     ⊎_elim (λ first. mps_stops command said old new out failure first h)
     (λ second. aux_stops command said old new out second.0 second.1 failure second.2 h) why
-
--- the first text was read, and why the second wasn't, in the words of the files as they were
-pub unread_after : (old middle : ShelfState) (said : Said) (mps : RawMps) (failure : Failure) → ReadsTo Done old middle
-    → ReadsModel old.contents said mps → FailsToRead middle.contents said.aux (IsAuxFault mps) failure
-    → FailsToReadTexts old.contents said failure
-unread_after old middle said mps failure quiet read why =
-    inr (
-      mps,
-      read,
-      subst (λ (files : Option Files). FailsToRead files said.aux (IsAuxFault mps) failure) quiet.reads.contents why,
-    )
-
--- a text that is held after a call that only reads was held before it
-pub held_before : (old middle : ShelfState) (name : List ℕ) (P : List ℕ → Type 0) → ReadsTo Done old middle
-    → HasText middle.contents name P → HasText old.contents name P
-held_before old middle name P quiet h =
-    subst (λ (files : Option Files). HasText files name P) quiet.reads.contents h
 
 -- ---- what a command wrote
 
@@ -783,33 +750,6 @@ pub no_memory : (does : Command → Bool) (words : List (List ℕ)) (at : Outsid
     → EndsCommand does words at at OutOfMemory
 no_memory does words at =
     record { run = no_run; cause = tt; leaves = nothing_left OutOfMemory tt at (unchanged at.files) refl }
-
--- the words ask for what was done
-caused : (does : Command → Bool) (words : List (List ℕ)) (files : Option Files) (run : Run) (ending : Ending)
-    → AreAsked does words run.words → IsCause files run ending → HasCause does words files run ending
-caused does words files run Done asked h = (asked, h)
-caused does words files run NoPoint asked h = (asked, h)
-caused does words files run BadWords asked h = absurd h
-caused does words files run (BadText file place rule) asked h = (asked, h)
-caused does words files run (NodesSpent budget made) asked h = (asked, h)
-caused does words files run (FollowerSpent budget made link) asked h = (asked, h)
-caused does words files run (ReadFault file) asked h = (asked, h)
-caused does words files run (WriteFault target) asked h = (asked, h)
-caused does words files run OutOfMemory asked h = tt
-caused does words files run (NotAccepted file line rule) asked h = (asked, h)
-caused does words files run (Missing file) asked h = (asked, h)
-caused does words files run (ManyPoints file) asked h = (asked, h)
-
-pub command_ends : (does : Command → Bool) (words : List (List ℕ)) (command : Command) (said : Said) (old new : Outside)
-    (ending : Ending) → does command ≡ true → AreModelWords command words said
-    → Ends (asked_by command said) old new ending → EndsCommand does words old new ending
-command_ends does words command said old new ending done these h = record {
-  run = h.run;
-  cause =
-      caused does words old.files.contents h.run ending
-      (subst (λ (w : ModelWords). AreAsked does words w) (sym h.words) (done, these)) h.cause;
-  leaves = h.leaves;
-}
 
 -- no words are those of the command
 abbrev AreNone : Command → List (List ℕ) → Type 0

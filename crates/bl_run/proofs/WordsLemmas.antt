@@ -2,7 +2,6 @@
 use Rattle.std.proofs.Common.{◌≡◌, ℕ, ◌<◌, ◌≤◌, ◌^◌, List, [], ◌∷◌, arith, sym, ap, subst, ◌∙◌, refl, get_or}
 use Rattle.std.specs.Prelude.{Option, None, Some}
 use Rattle.std.specs.Option.{option_to_list}
-use Rattle.std.specs.Fmt.{decimal}
 use Rattle.std.proofs.lemmas.Fmt.{decimal_injective}
 use Rattle.std.proofs.lemmas.Int.{ints}
 use Rattle.bl_words.specs.declared.commands.Command.{Command}
@@ -12,7 +11,6 @@ use Rattle.bl_words.specs.declared.commands.Limits.{Limits}
 use Rattle.bl_words.specs.Commands.{name_of, upper_limits, node_limits, follower_limits}
 use Rattle.bl_words.specs.Items.{Item, Said, texts_of, IsNumber, AreSpelled, AreFiles, AreModelItems, AreModelWords}
 use Rattle.bl_words.proofs.Spellings.{read_spelled}
-use Rattle.bl_run.specs.Steps.{AreBudgets, IsDefaultUpper}
 
 -- ---- limits
 
@@ -22,27 +20,6 @@ within : (limits : Limits) → limits.least ≤ limits.usual → limits.usual �
 within limits least most [] n h = (omega (arith, h, least), omega (arith, h, most))
 within limits least most (text ∷ []) n h = (h.0, h.1)
 within limits least most (text ∷ other ∷ texts) n h = absurd h
-
--- so are the numbers of words
-pub default_within : (command : Command) (words : List (List ℕ)) (said : Said) → AreModelWords command words said
-    → IsDefaultUpper said.default_upper
-default_within command words said h =
-    (within upper_limits (omega (arith, ints)) (omega (arith, ints)) (texts_of (Some DefaultUpper) h.items)
-    said.default_upper h.says.default_upper).1
-
-pub budgets_within : (command : Command) (words : List (List ℕ)) (said : Said) → AreModelWords command words said
-    → AreBudgets said.nodes said.follower_nodes
-budgets_within command words said h =
-    let tree = within node_limits (omega arith) (omega arith) (texts_of (Some Nodes) h.items) said.nodes
-    h.says.node_budget in
-    let follower = within follower_limits (omega arith) (omega arith) (texts_of (Some FollowerNodes) h.items)
-    said.follower_nodes h.says.follower_budget in
-    record {
-      nodes_least = tree.0;
-      nodes_most = tree.1;
-      follower_least = follower.0;
-      follower_most = follower.1;
-    }
 
 -- ---- one meaning
 

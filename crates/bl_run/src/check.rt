@@ -3,7 +3,6 @@
 ghost use Rattle.std.specs.Prelude.{◌≡◌, length, Some, IsSome, IfOk, IfErr};
 ghost use Rattle.bl_terms.specs.Programs.{columns as column_count};
 ghost use Rattle.bl_cert_terms.specs.Certificates.{StatementHolds};
-ghost use Rattle.bl_check.specs.Checks.{IsChecked};
 ghost use Rattle.bl_run.specs.Report.{accepted_report};
 ghost use Rattle.bl_run.specs.Steps.{result_ending, Ends, IsDefaultUpper, asked_by, AreWithin, program_in};
 ghost use Rattle.bl_run.specs.Steps.{IsAcceptedText, FailsToCheck};
@@ -66,7 +65,7 @@ fn report_on<'a>(
     ensures failed { IfErr result (FailsToCheck (program_in texts.now) file.now cert.now) }
 {
     let model = build(alloc, &texts.mps, &texts.aux)?;
-    match stated(alloc, &model, cert) {
+    match bl_check::check(alloc, &model, cert) {
         Ok(statement) => {
             let columns = texts.mps.columns.as_slice();
             Ok(accepted_report(alloc, columns, &model, &statement)?)
@@ -78,15 +77,6 @@ fn report_on<'a>(
         )),
         Err(CheckFail::Memory) => Err(Failure::Memory),
     }
-}
-
-/// What a certificate states that is accepted.
-fn stated(alloc: Global, model: &Bilevel, cert: &[u8]) -> Result<Statement, CheckFail>
-    ensures checked { IsChecked model.now cert.now result }
-    ensures holds { IfOk result (StatementHolds model.now) }
-{
-    let _sense = model.sense();
-    bl_check::check(alloc, model, cert)
 }
 
 /// The report of an accepted certificate, by what it states.

@@ -9,9 +9,9 @@ use std::sync::Wait;
 use std::test::Fail;
 use std::thread::Threads;
 use texts::{
-    ALONE, CHOICE, CUT, CUT_CERT, FIXED, FIXED_APART, GREATEST, HALF, INTERDICTION,
-    INTERDICTION_AUX, MOORE_BARD, MOORE_BARD_AUX, MOORE_BARD_SHOWN, OPEN, RAMP, RANGE, RANGE_SHOWN,
-    TIES, TIES_AUX, TOLL, TOLL_AUX, TURNED_CERT, UNPROVED_CERT, UNWILLING, UNWILLING_CERT, WIDE,
+    ALONE, CHOICE, CUT, FIXED, FIXED_APART, GREATEST, HALF, INTERDICTION, INTERDICTION_AUX,
+    MOORE_BARD, MOORE_BARD_AUX, MOORE_BARD_SHOWN, OPEN, RAMP, RANGE, RANGE_SHOWN, TIES, TIES_AUX,
+    TOLL, TOLL_AUX, UNWILLING, WIDE,
 };
 
 const NO_FOLLOWER: &str = "N 0\nM 0\nOS 1\n";
@@ -244,40 +244,6 @@ const REFUSALS: [Case; 15] = [
     ),
 ];
 
-/// The two texts of a model, the text in `m.cert`, and what `check` tells of it.
-const CHECKS: [(&str, &str, &str, &str); 5] = [
-    (
-        UNWILLING,
-        UNWILLING_AUX,
-        UNWILLING_CERT,
-        "0\naccepted\ninfeasible\n",
-    ),
-    (
-        CUT,
-        CUT_AUX,
-        CUT_CERT,
-        "0\naccepted\noptimal\nvalue -1\nfollower 0\ncolumn X 1\ncolumn Y 0\n",
-    ),
-    (
-        UNWILLING,
-        UNWILLING_AUX,
-        UNPROVED_CERT,
-        "9\nmibs: m.cert: line 10: Proof\n",
-    ),
-    (
-        UNWILLING,
-        UNWILLING_AUX,
-        TURNED_CERT,
-        "9\nmibs: m.cert: line 2: Sense\n",
-    ),
-    (
-        UNWILLING,
-        UNWILLING_AUX,
-        "mibs-certificate 2",
-        "9\nmibs: m.cert: line 1: Syntax\n",
-    ),
-];
-
 /// The two texts of a model with one best point at most, what `solve` tells of it, and what `check` tells of the
 /// certificate of that answer.
 const CERTIFIED: [(&str, &str, &str, &str); 2] = [
@@ -448,18 +414,6 @@ fn other_commands_are_unknown_to_show(rt: HostRuntime) -> Result<(), Fail> {
     let status = out_of_memory(&mut err);
     assert_eq!(rt; status, Status(8));
     assert_eq!(rt; err.bytes(), b"mibs: want of memory\n".as_slice());
-    Ok(())
-}
-
-#[test]
-fn checks_certificates(rt: HostRuntime) -> Result<(), Fail> {
-    let words = words_of(rt.alloc(), "check m.mps m.aux m.cert")?;
-    for (mps, aux, cert, want) in CHECKS {
-        let mut files = shelf(rt.alloc(), mps, aux, &[])?;
-        files.set("m.cert", cert.as_bytes())?;
-        let told = told_by_check(rt.alloc(), &words, &mut files)?;
-        assert!(rt; is_told(&told, want), "{told:?} is {want:?}");
-    }
     Ok(())
 }
 

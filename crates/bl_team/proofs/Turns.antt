@@ -1,48 +1,36 @@
 -- What the steps of a turn leave.
-use Rattle.std.proofs.Common.{◌≡◌, ◌≢◌, ℕ, zero, suc, ◌+◌, ◌*◌, ◌<◌, ◌≤◌, refl, sym, ◌∙◌, ap, subst, arith, inl, inr}
+use Rattle.std.proofs.Common.{◌≡◌, ◌≢◌, ℕ, zero, suc, ◌+◌, ◌<◌, refl, sym, ◌∙◌, subst, arith, inl, inr}
 use Rattle.std.proofs.Common.{List, [], ◌∷◌, ◌++◌, length}
-use Rattle.std.specs.Prelude.{ℤ, Option, Some, None, MatchOption}
+use Rattle.std.specs.Prelude.{ℤ, Option}
 use Rattle.std.specs.Arc.{arc_value}
 use Rattle.std.proofs.lemmas.Bool.{cases_eq}
 use Rattle.std.proofs.lemmas.List.{length-append}
 use Rattle.bl_terms.specs.Points.{Area, IsWithinArea}
 use Rattle.bl_terms.specs.Programs.{Program, root}
-use Rattle.bl_terms.specs.Responses.{IsLink}
-use Rattle.bl_terms.specs.Trees.{CanSplit, point_count, low_half, high_half}
-use Rattle.bl_terms.specs.FollowerProofs.{follower_box}
+use Rattle.bl_terms.specs.Trees.{CanSplit, low_half, high_half}
 use Rattle.bl_model.specs.Boxes.{Halved}
 use Rattle.bl_cut_terms.specs.NoGoods.{NoGoodCut}
-use Rattle.bl_leaf_terms.specs.Incumbents.{Incumbent, AreIncumbents, cutoff_of}
+use Rattle.bl_leaf_terms.specs.Incumbents.{Incumbent, AreIncumbents}
 use Rattle.bl_leaf_terms.specs.Nodes.{NodeLicence, IsNodeLicence}
 use Rattle.bl_leaf_terms.specs.Leaves.{ClosedLeaf}
 use Rattle.bl_book_terms.specs.Books.{Status, Ready, Claimed, Divided, Closed, Node, ready_node, node_at, with_status}
-use Rattle.bl_book_terms.specs.Books.{HasStatus, Book, Ledger, best_value, after, IsAllowed, IsCurrent, IsLive}
-use Rattle.bl_book_terms.specs.Books.{IsFinished, opening}
+use Rattle.bl_book_terms.specs.Books.{Book, Ledger, best_value, after, IsAllowed}
 use Rattle.bl_book_terms.specs.Books as books
 use Rattle.bl_book_terms.proofs.NodeLemmas.{same_length, other_status, new_status, old_node, more_node, next_node}
 use Rattle.bl_book_terms.proofs.RunLemmas.{every_run_is_sound, room_is_left}
-use Rattle.bl_follower.specs.Exhausted.{Exhausted, IsExhausted}
 use Rattle.bl_core.specs.declared.event.Event.TheVariants as event
-use Rattle.bl_core.specs.declared.fail.SplitFail.{SplitFail}
 use Rattle.bl_core.specs.declared.fail.SplitFail.TheVariants as split
-use Rattle.bl_core.specs.declared.fail.CloseFail.{CloseFail}
-use Rattle.bl_core.specs.declared.fail.CloseFail.TheVariants as close
 use Rattle.bl_core.specs.declared.outcome.Ended.{Ended}
-use Rattle.bl_core.specs.declared.outcome.Ended.TheVariants.{Done, Nodes, Follower}
-use Rattle.bl_core.specs.Accounts.{KeptBook, entered, IsKept, IsNextReady, live_count, state_of}
-use Rattle.bl_core.specs.Outcomes.{Ending}
-use Rattle.bl_core.specs.Refusals.{IsUnready, IsUnclaimed, IsOutdated, IsSplitFailure, IsCloseFailure}
+use Rattle.bl_core.specs.declared.outcome.Ended.TheVariants.{Nodes}
+use Rattle.bl_core.specs.Accounts.{KeptBook, entered, IsKept, live_count}
+use Rattle.bl_core.specs.Refusals.{IsSplitFailure}
 use Rattle.bl_core.specs.Tasks.{IsTaskOf}
-use Rattle.bl_core.proofs.ReadLemmas.{state_in}
 use Rattle.bl_core.proofs.StepLemmas.{live_told, live_some}
 use Rattle.bl_core.proofs.OutcomeLemmas.{full_book_may_end}
-use Rattle.bl_tree.specs.declared.task.State.{State}
 use Rattle.bl_tree.specs.declared.task.Task.{Task}
-use Rattle.bl_node.specs.Works.{IsJob, job_of, IsLinkOfBox}
-use Rattle.bl_node.specs.Works as works
-use Rattle.bl_team.specs.Answers.{EndsWithin, IsOutcomeFor}
-use Rattle.bl_team.specs.declared.settings.Settings.{Settings}
-use Rattle.bl_team.specs.Turns.{IsIdle, IsAtWork, IsSameSearch, left_of, IsTurnOver, IsBegun, IsLeafFor, IsDivisionFor}
+use Rattle.bl_node.specs.Works.{IsJob, job_of}
+use Rattle.bl_team.specs.Answers.{EndsWithin}
+use Rattle.bl_team.specs.Turns.{IsIdle, IsAtWork, IsSameSearch, IsTurnOver, IsBegun}
 use Rattle.bl_team.specs.Turns.{IsEnd, IsTurn}
 use Rattle.bl_team.specs.declared.turn.Turn.{Turn}
 use Rattle.bl_team.specs.declared.turn.Turn.TheVariants as turn
@@ -194,47 +182,8 @@ over_by_split b b' k h licence cuts split may work =
 
 -- ---- what can't be refused
 
-pub not_unready : (b : Book) (k : ℕ) (kept : Option State) → HasStatus b k Ready → IsUnready b k kept → ⊥
-not_unready b k kept has unready =
-    unready.other (unready.told ∙ state_in b k has.there ∙ ap (λ (s : Status). Some (state_of s)) has.status)
-
-pub not_unclaimed : (b : Book) (k w : ℕ) (u : Option ℤ) (kept : Option State) → HasStatus b k (Claimed w u)
-    → IsUnclaimed b w k kept → ⊥
-not_unclaimed b k w u kept has unclaimed =
-    unclaimed.other u
-    (unclaimed.told ∙ state_in b k has.there ∙ ap (λ (s : Status). Some (state_of s)) has.status)
-
-pub not_refused : (b : Book) (k : ℕ) (leaf : ClosedLeaf) (fail : CloseFail) → IsAtWork b k → IsLeafFor b k leaf
-    → IsCloseFailure b zero k leaf fail → ⊥
-not_refused b k leaf (close.NotYours kept) work own fails =
-    not_unclaimed b k zero (best_value b) kept work.claimed fails
-not_refused b k leaf close.OtherModel work own fails = fails.1 own.program
-not_refused b k leaf close.OtherBox work own fails = fails.2 own.area
-
 claimed_value : (w w' : ℕ) (u u' : Option ℤ) → Claimed w u ≡ Claimed w' u' → u ≡ u'
 claimed_value w w' u u' e = grind (arith, e)
-
-not_outdated : (b : Book) (k : ℕ) (licence : NodeLicence) (v : ℤ) → IsAtWork b k
-    → IsCurrent (best_value b) (cutoff_of licence.cutoff) → IsOutdated b zero k licence v → ⊥
-not_outdated b k licence v work current old =
-    let e = claimed_value zero zero (best_value b) (Some v) (sym work.claimed.status ∙ old.claimed.status) in
-    old.old (subst (λ (u : Option ℤ). IsCurrent u (cutoff_of licence.cutoff)) e current)
-
--- a split is refused only where the book is full
-abbrev pub IsFullFailure : SplitFail → Type 0
-IsFullFailure (split.Full made why) = Unit {0}
-IsFullFailure _ = ⊥
-
-pub only_full : (b : Book) (k : ℕ) (h : Halved) (licence : NodeLicence) (fail : SplitFail) → IsAtWork b k
-    → IsDivisionFor b k h licence → IsSplitFailure b zero k h licence fail → IsFullFailure fail
-only_full b k h licence (split.NotYours kept) work own fails =
-    absurd (not_unclaimed b k zero (best_value b) kept work.claimed fails)
-only_full b k h licence split.OtherModel work own fails = absurd (fails.1 own.program)
-only_full b k h licence split.OtherBox work own fails =
-    absurd (fails.1 (record { first = own.halves; second = own.area }))
-only_full b k h licence (split.OldCutoff kept) work own fails =
-    absurd (not_outdated b k licence kept work own.current fails.1)
-only_full b k h licence (split.Full made why) work own fails = tt
 
 -- ---- ends
 
@@ -251,47 +200,6 @@ full_end n l k made h licence back kept one can holds fails =
       cause = cause;
       within = omega (arith, room, full);
     }
-
-pub follower_end : (n : ℕ) (l : Ledger) (k : ℕ) (t : Task) (s : Exhausted) → IsAtWork l.book k
-    → IsTaskOf l.book zero k t → IsExhausted s → works.IsSpentIn (job_of t) n s → IsEnd n l.book l (Follower s)
-follower_end n l k t s work task exhausted spent =
-    let program : s.program ≡ l.book.program = spent.program ∙ task.program in
-    let small : n + 1 < 2 * point_count (follower_box l.book.program) =
-    subst (λ (p : Program). n + 1 < 2 * point_count (follower_box p)) task.program spent.small in
-    let A : Program → Area → Type 0 = λ p a. IsLinkOfBox p a s.link in
-    let link = subst (λ (a : Area). A l.book.program a) task.area
-    (subst (λ (p : Program). A p (arc_value t.area)) task.program spent.link) in
-    let own = subst (λ (p : Program). IsLink p s.link) program exhausted.link in
-    record {
-      same = over_itself l.book;
-      workers = work.workers;
-      cause = (
-        k,
-        record {
-          live = record {
-            there = work.claimed.there;
-            live = subst IsLive (sym work.claimed.status) tt;
-          };
-          program = program;
-          link = record { count = own.count; least = link.least; most = link.most };
-        },
-      );
-      within = (spent.budget, small);
-    }
-
--- no node is left where none is claimed and none ready
-left_none : (b : Book) (k : ℕ) (s : Status) → IsIdle b → ¬ HasStatus b k Ready → k < length b.nodes
-    → (node_at b.nodes k).status ≡ s → ¬ IsLive s
-left_none b k Ready idle none there is live = none (record { there = there; status = is })
-left_none b k (Claimed w u) idle none there is live =
-    idle.none k w u (record { there = there; status = is })
-left_none b k (Divided h licence low) idle none there is live = live
-left_none b k (Closed leaf) idle none there is live = live
-
-pub finished_where_none : (b : Book) → IsIdle b → ((k : ℕ) → 0 ≤ k → ¬ HasStatus b k Ready) → IsFinished b
-finished_where_none b idle none = record {
-  none = λ k there. left_none b k (node_at b.nodes k).status idle (none k (omega arith)) there refl;
-}
 
 -- ---- whole turns
 
@@ -337,48 +245,5 @@ job_of_task l k t kept task =
 
 -- ---- the search
 
-pub next_found : (b : Book) (o : Option ℕ) → IsIdle b
-    → MatchOption o ((k : ℕ) → 0 ≤ k → ¬ HasStatus b k Ready) (IsNextReady b 0)
-    → MatchOption o (IsFinished b) (λ k. HasStatus b k Ready)
-next_found b None idle none = finished_where_none b idle none
-next_found b (Some k) idle next = next.ready
-
-pub opening_idle : (p : Program) (n : ℕ) → IsIdle (opening p 1 n)
-opening_idle p n = record {
-  workers = refl;
-  none = λ k w u has. opening_unclaimed p n k w u has.there has.status;
-}
-  where
-    opening_unclaimed : (p : Program) (n k w : ℕ) (u : Option ℤ) → k < 1
-        → (node_at (opening p 1 n).nodes k).status ≡ Claimed w u → ⊥
-    opening_unclaimed p n zero w u there has = not_ready Ready w u refl has
-    opening_unclaimed p n (suc k) w u there has = absurd (omega (arith, there))
-
-pub same_itself : (b : Book) → IsSameSearch b b
-same_itself b = over_itself b
-
-pub same_after : (b b1 b2 : Book) → IsSameSearch b b1 → IsTurnOver b1 b2 → IsSameSearch b b2
-same_after b b1 b2 same over = same_more b b1 b2 same over.same
-
-pub done_end : (n : ℕ) (b : Book) (l : Ledger) → IsSameSearch b l.book → IsIdle l.book → IsFinished l.book
-    → IsEnd n b l Done
-done_end n b l same idle finished =
-    record { same = same; workers = idle.workers; cause = finished; within = tt }
-
 pub end_from : (n : ℕ) (b b1 : Book) (l : Ledger) (end : Ended) → IsSameSearch b b1 → IsEnd n b1 l end → IsEnd n b l end
 end_from n b b1 l end same ends = end_more n b b1 l end same ends
-
-pub outcome_from : (p : Program) (s : Settings) (b : KeptBook) (o : Ending)
-    → b.ledger.book ≡ opening p 1 s.nodes → IsEnd s.follower_nodes b.ledger.book o.book.ledger o.end
-    → IsOutcomeFor p 1 s o
-outcome_from p s b o opens ends =
-    let program : b.ledger.book.program ≡ p = ap (λ (x : Book). x.program) opens in
-    let limit : b.ledger.book.limit ≡ s.nodes = ap (λ (x : Book). x.limit) opens in
-    record {
-      program = ends.same.program ∙ program;
-      workers = ends.workers;
-      limit = ends.same.limit ∙ limit;
-      end =
-          subst (λ (m : ℕ). EndsWithin p m s.follower_nodes o.end) limit
-          (subst (λ (q : Program). EndsWithin q b.ledger.book.limit s.follower_nodes o.end) program ends.within);
-    }

@@ -1,5 +1,5 @@
 -- The link of a box, number by number.
-use Rattle.std.proofs.Common.{◌≡◌, ℕ, ◌<◌, sym, ◌∙◌, ap, List, length}
+use Rattle.std.proofs.Common.{◌≡◌, ℕ, ◌<◌, sym, ◌∙◌, List, length}
 use Rattle.std.specs.Prelude.{ℤ, pos, slice_index, All}
 use Rattle.std.proofs.lemmas.List.{ext_get_or, length-map}
 use Rattle.bl_whole.specs.Sums.{component}
@@ -15,13 +15,6 @@ link_by_numbers link lo links size each =
     ext_get_or (pos 0) link (values_at lo links) (size ∙ sym (length-map links (λ k. component lo k)))
     (λ k b. let at : k < length links = rw (← size) b in
     each k at ∙ sym (values_at-entry lo links k at))
-
-pub link_size : (link lo : List ℤ) (links : List ℕ) → link ≡ values_at lo links → length link ≡ length links
-link_size link lo links e = ap length e ∙ length-map links (λ k. component lo k)
-
-pub link_number : (link lo : List ℤ) (links : List ℕ) (k : ℕ) → k < length links → link ≡ values_at lo links
-    → component link k ≡ component lo (slice_index links k)
-link_number link lo links k b e = ap (λ xs. component xs k) e ∙ values_at-entry lo links k b
 
 -- the linking columns are columns of a part of the box
 pub links_there : (p : Program) (a : Area) (lo : List ℤ) (links : List ℕ) → IsModel p → IsWithinArea a (root p)

@@ -1,16 +1,15 @@
 -- What the texts of items are read as.
-use Rattle.std.proofs.Common.{◌≡◌, ◌≢◌, ◌⊎◌, ℕ, zero, suc, ◌-◌, ◌≤◌, Bool, true, false, not, List, [], ◌∷◌, length}
+use Rattle.std.proofs.Common.{◌≡◌, ◌⊎◌, ℕ, zero, suc, ◌-◌, ◌≤◌, Bool, true, false, not, List, [], ◌∷◌, length}
 use Rattle.std.proofs.Common.{map, take}
 use Rattle.std.proofs.Common.{◌<◌, ◌^◌}
 use Rattle.std.proofs.Common.{drop, get_or, Option, Some, None, option_to_list, refl, sym, ap, ◌∙◌, arith, ℤ, pos}
 use Rattle.std.proofs.Common.{negsuc, inl, inr}
-use Rattle.std.proofs.Common.{is_some, subst}
-use Rattle.std.specs.Prelude.{slice_get, ◌<ℤ◌, ◌≤ℤ◌, FitsSigned, IfSome, IfNone}
+use Rattle.std.proofs.Common.{is_some}
+use Rattle.std.specs.Prelude.{slice_get, ◌<ℤ◌, FitsSigned, IfSome, IfNone}
 use Rattle.std.specs.Fmt.{decimal, signed_decimal}
 use Rattle.std.specs.Int.{w64}
 use Rattle.std.specs.Option.{option_map}
 use Rattle.std.specs.Str.{bytes_eq}
-use Rattle.std.proofs.lemmas.Bool.{false≢true}
 use Rattle.std.proofs.lemmas.Fmt.{decimal_injective, decimal_is_IsNumeral}
 use Rattle.std.proofs.lemmas.Int.{ints}
 use Rattle.std.proofs.lemmas.List.{take_rest}
@@ -24,19 +23,6 @@ use Rattle.bl_words.specs.Items.{AreModelItems, AreModelWords}
 use Rattle.bl_words.specs.Steps.{walk}
 use Rattle.bl_words.proofs.Spellings.{read_spelled, spelled_read}
 
-pub two-texts : (texts : List (List ℕ)) (a b : List ℕ) → Some a ≡ slice_get texts 0 → Some b ≡ slice_get texts 1
-    → None ≡ slice_get texts 2 → texts ≡ a ∷ b ∷ []
-two-texts [] a b e f g = absurd cc
-two-texts (x ∷ []) a b e f g = absurd cc
-two-texts (x ∷ y ∷ []) a b e f g = cc
-two-texts (x ∷ y ∷ z ∷ zs) a b e f g = absurd cc
-
-pub one-text : (texts : List (List ℕ)) (a : List ℕ) → Some a ≡ slice_get texts 0 → None ≡ slice_get texts 1
-    → texts ≡ a ∷ []
-one-text [] a e f = absurd cc
-one-text (x ∷ []) a e f = cc
-one-text (x ∷ y ∷ ys) a e f = absurd cc
-
 none-mapped : {X Y : Type 0} (o : Option X) (f : X → Y) → is_some o ≡ false → None ≡ option_map f o
 none-mapped None f e = refl
 none-mapped (Some x) f e = absurd cc
@@ -44,9 +30,6 @@ none-mapped (Some x) f e = absurd cc
 pub none-third : {X : Type 0} (o : Option X) (f : X → List ℕ) (test : Bool) (got : Option (List ℕ))
     → option_map f o ≡ got → test ≡ is_some o → test ≡ false → None ≡ got
 none-third o f test got e t h = none-mapped o f (sym t ∙ h) ∙ e
-
-pub differ-by_test : (a b : List ℕ) (test : Bool) → test ≡ bytes_eq a b → test ≡ false → a ≢ b
-differ-by_test a b test e h same = false≢true (sym h ∙ e ∙ (bytes_eq-Decides a b).1 same)
 
 -- a text is the spelling of one number
 pub same-number : (text : List ℕ) (number : ℤ) (value : ℕ) → text ≡ signed_decimal number → FitsSigned w64 number
