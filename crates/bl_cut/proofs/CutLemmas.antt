@@ -1,13 +1,13 @@
 -- What a proved cut's last step is, and that its row is valid.
-use Rattle.std.proofs.Common.{◌≡◌, ℕ, suc, ◌+◌, ◌-◌, ◌<◌, refl, sym, ◌∙◌}
+use Rattle.std.proofs.Common.{◌≡◌, ℕ, suc, ◌+◌, ◌-◌, ◌<◌, ◌≤◌, refl, sym, ◌∙◌}
 use Rattle.std.proofs.Common.{subst, ap, arith, List, [], ◌∷◌, ◌++◌, length, take}
 use Rattle.std.proofs.Common.{Bool, true, false, cond, drop, length-drop}
-use Rattle.std.specs.Prelude.{ℤ, map, slice_index_or, nat_lt}
+use Rattle.std.specs.Prelude.{ℤ, All, map, slice_index_or, nat_lt}
 use Rattle.std.specs.Arc.{arc_value}
 use Rattle.std.specs.declared.sync.Arc.{Arc}
 use Rattle.std.specs.Int.{w128}
 use Rattle.std.proofs.lemmas.Int.{ints}
-use Rattle.std.proofs.lemmas.List.{length-map, get_or-map, take_more, map_push, length_push}
+use Rattle.std.proofs.lemmas.List.{length-map, get_or-map, get_or_default, take_more, map_push, length_push}
 use Rattle.std.proofs.lemmas.List.Elements.{All-push, All-drop}
 use Rattle.std.proofs.lemmas.Bool.Decides.{Decides-ltb}
 use Rattle.std.proofs.lemmas.List.FromFn.{length-map-range_with_len}
@@ -23,7 +23,7 @@ use Rattle.bl_cut_terms.specs.NoGoods.{LocalRow, local_row, CutStep, IsCutStep}
 use Rattle.bl_cut_terms.specs.NoGoods.{AreCutSteps, NoGoodCut, no_step, step_at}
 use Rattle.bl_cut_terms.specs.NoGoods.{last_step, cut_of, tight_rows}
 use Rattle.bl_cut_terms.proofs.NoGoodLemmas.{no_goods_law}
-use Rattle.bl_cut.specs.Cuts.{IsProvedCut, IsValidCut, AreProvedCuts, with_cut}
+use Rattle.bl_cut.specs.Cuts.{IsProvedCut, IsValidCut, AreProvedCuts, AreCutsOf, AreOfOne, with_cut, cut_at, no_cut}
 
 -- the last step is the one at the last place
 pub last_at : (steps : List CutStep) → 0 < length steps → last_step steps ≡ step_at steps (length steps - 1)
@@ -133,3 +133,32 @@ with_cut-proved cuts c all proved = by (nat_lt (length cuts) MAX_CUTS) refl
           omega arith;
       proved = All-push IsProvedCut (drop 1 cuts) c (All-drop IsProvedCut 1 cuts all.proved) proved;
     }
+
+-- what holds at each place holds of each cut
+pub all_by_places : (P : NoGoodCut → Type 0) (cuts : List NoGoodCut) (n : ℕ) → length cuts ≤ n
+    → ((k : ℕ) → k < n → P (cut_at cuts k)) → All P cuts
+all_by_places P cuts n e each =
+    λ k d b. subst P (get_or_default cuts k no_cut d b) (each k (omega arith))
+
+-- cuts of one program stay such with a further one of it
+pub with_cut-of : (cuts : List NoGoodCut) (c : NoGoodCut) → AreCutsOf c.program cuts → AreCutsOf c.program (with_cut cuts c)
+with_cut-of cuts c all = by (nat_lt (length cuts) MAX_CUTS)
+  where
+    by : (t : Bool) → AreCutsOf c.program (cond t cuts (drop 1 cuts) ++ c ∷ [])
+    by true = All-push (λ d. d.program ≡ c.program) cuts c all refl
+    by false =
+        All-push (λ d. d.program ≡ c.program) (drop 1 cuts) c (All-drop (λ d. d.program ≡ c.program) 1 cuts all) refl
+
+-- cuts of a program are all of the first one's
+pub one_of-all : (p : Program) (cuts : List NoGoodCut) → AreCutsOf p cuts → AreOfOne cuts
+one_of-all p cuts all = λ k d b. all k d b ∙ sym (all 0 no_cut (omega (arith)))
+
+-- and where the first one is of a program, all are
+pub all_of-one : (p : Program) (cuts : List NoGoodCut) → AreOfOne cuts → (cut_at cuts 0).program ≡ p → AreCutsOf p cuts
+all_of-one p cuts one first = λ k d b. one k d b ∙ first
+
+-- a list with a further cut of the program of all others
+pub one_with : (cuts : List NoGoodCut) (c : NoGoodCut) (p : Program) → p ≡ c.program → AreCutsOf p cuts
+    → AreOfOne (with_cut cuts c)
+one_with cuts c p e all =
+    one_of-all c.program (with_cut cuts c) (with_cut-of cuts c (subst (λ q. AreCutsOf q cuts) e all))

@@ -1,8 +1,9 @@
 -- Trusted. Proved cuts, and a list to which cuts are added.
 use Rattle.std.specs.Prelude.{ℕ, ◌<◌, ◌^◌, pos, List, []}
 use Rattle.std.specs.Prelude.{◌∷◌, ◌++◌, length, slice_index_or, if◌then◌else◌, nat_lt, drop}
-use Rattle.std.specs.Prelude.{◌≤◌, All}
+use Rattle.std.specs.Prelude.{◌≡◌, ◌↔◌, ◌≤◌, Bool, IsTrue, All}
 use Rattle.bl_limits.specs.declared.TheConstants.{MAX_CUTS}
+use Rattle.bl_terms.specs.Programs.{Program}
 use Rattle.bl_model.specs.View.{IsModel}
 use Rattle.bl_cut_terms.specs.ValidRows.{IsValidRow}
 use Rattle.bl_cut_terms.specs.NoGoods.{NoGoodCut, AreCutSteps, cut_of}
@@ -45,6 +46,19 @@ cut_at cuts k = slice_index_or cuts k no_cut
 -- the list with a further cut as its last, without its first where it is full
 abbrev pub with_cut : List NoGoodCut → NoGoodCut → List NoGoodCut
 with_cut cuts c = (if nat_lt (length cuts) MAX_CUTS then cuts else drop 1 cuts) ++ c ∷ []
+
+-- all cuts are of a program
+abbrev pub AreCutsOf : Program → List NoGoodCut → Type 0
+AreCutsOf p cuts = All (λ c. c.program ≡ p) cuts
+
+-- all cuts are of the first one's program
+abbrev pub AreOfOne : List NoGoodCut → Type 0
+AreOfOne cuts = AreCutsOf (cut_at cuts 0).program cuts
+
+-- what is kept beside a list of few cuts, each proved: whether all are of one program
+pub record KeepsCuts (of_one : Bool) (cuts : List NoGoodCut) : Type 0 where
+  pub proved : AreProvedCuts cuts
+  pub one : IsTrue of_one ↔ AreOfOne cuts
 
 -- every bilevel feasible point of the cut's box meets its row
 abbrev pub IsValidCut : NoGoodCut → Type 0

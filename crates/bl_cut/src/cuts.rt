@@ -1,10 +1,11 @@
 //! Lists of cuts.
-ghost use Rattle.std.specs.Prelude.{◌≡◌, ◌<◌, ◌≤◌, [], length, drop, map, IfOk, MatchOption};
+ghost use Rattle.std.specs.Prelude.{◌≡◌, ◌↔◌, ◌<◌, ◌≤◌, [], length, IsTrue, IfOk, MatchOption};
 ghost use Rattle.std.specs.Arc.{arc_value};
-ghost use Rattle.bl_cut.specs.Cuts.{AreProvedCuts, with_cut, cut_at};
+ghost use Rattle.bl_cut.specs.Cuts.{AreProvedCuts, AreCutsOf, with_cut, cut_at};
 
+use crate::list::CutList;
 use crate::proved::ProvedCut;
-use bl_limits::MAX_CUTS;
+use bl_model::Bilevel;
 use std::alloc::{AllocError, Global};
 use std::marker::Model;
 use std::sync::Arc;
@@ -12,20 +13,20 @@ use std::sync::Arc;
 /// A shared list of at most `MAX_CUTS` shared cuts, of whatever models.
 #[derive(Debug, Drop)]
 pub struct Cuts {
-    cuts: Arc<Vec<Arc<ProvedCut, Global>>, Global>,
+    list: Arc<CutList, Global>,
 }
 
 impl Model for Cuts {
-    ghost use Rattle.std.specs.Prelude.{List, map};
+    ghost use Rattle.std.specs.Prelude.{List};
     ghost use Rattle.std.specs.Arc.{arc_value};
     ghost use Rattle.bl_cut_terms.specs.NoGoods.{NoGoodCut};
     ghost use Rattle.bl_cut.specs.Cuts.{AreProvedCuts};
 
     ghost Value = { List NoGoodCut };
 
-    ghost view = { λ c. map arc_value (arc_value c.cuts).items };
+    ghost view = { λ c. arc_value c.list };
 
-    ghost invariant = { λ c. AreProvedCuts (map arc_value (arc_value c.cuts).items) };
+    ghost invariant = { λ c. AreProvedCuts (arc_value c.list) };
 }
 
 impl Cuts {
@@ -33,26 +34,32 @@ impl Cuts {
     pub fn none(alloc: Global) -> Result<Cuts, AllocError>
         ensures { IfOk result (λ cuts. cuts ≡ []) }
     {
-        let cuts = Arc::new(alloc, Vec::new(alloc))?;
-        Ok(Cuts { cuts })
+        let list = Arc::new(alloc, CutList::none(alloc))?;
+        Ok(Cuts { list })
     }
 
     /// The list with this cut as its last, and without its first where there are `MAX_CUTS` already.
     pub fn add(&self, alloc: Global, cut: Arc<ProvedCut, Global>) -> Result<Cuts, AllocError>
         ensures { IfOk result (λ cuts. cuts ≡ with_cut self.now (arc_value cut)) }
     {
-        let _model = cut.model();
-        let cuts = extended(alloc, &self.cuts, cut)?;
-        let cuts = Arc::new(alloc, cuts)?;
-        Ok(Cuts { cuts })
+        let list = self.list.with(alloc, cut)?;
+        let list = Arc::new(alloc, list)?;
+        Ok(Cuts { list })
     }
 
     /// Another handle to the same list.
     pub fn copy(&self) -> Result<Cuts, AllocError>
         ensures { IfOk result (λ copy. copy ≡ self.now) }
     {
-        let cuts = self.cuts.clone()?;
-        Ok(Cuts { cuts })
+        let list = self.list.clone()?;
+        Ok(Cuts { list })
+    }
+
+    /// Whether all cuts are of this model.
+    pub fn are_of(&self, model: &Bilevel) -> bool
+        ensures { IsTrue result ↔ AreCutsOf model.now self.now }
+    {
+        self.list.is_of(model)
     }
 
     /// How many cuts there are, at most `MAX_CUTS`.
@@ -60,7 +67,7 @@ impl Cuts {
         ensures value { result ≡ length self.now }
         ensures cuts { AreProvedCuts self.now }
     {
-        self.cuts.len() as u32
+        self.list.cuts().len() as u32
     }
 
     /// The cut at a place, none past the last.
@@ -69,40 +76,11 @@ impl Cuts {
             (λ c. (place < length self.now) × (arc_value c.now ≡ cut_at self.now place)) }
     {
         let place = place as usize;
-        let cuts: &Vec<Arc<ProvedCut, Global>> = &self.cuts;
+        let cuts = self.list.cuts();
         if place < cuts.len() {
             Some(&cuts[place])
         } else {
             None
         }
     }
-}
-
-/// Handles to the same cuts.
-fn copied(
-    alloc: Global,
-    cuts: &[Arc<ProvedCut, Global>],
-) -> Result<Vec<Arc<ProvedCut, Global>>, AllocError>
-    ensures { IfOk result (λ copies. map arc_value copies.items ≡ map arc_value cuts.now) }
-{
-    let mut copies = Vec::with_capacity(alloc, MAX_CUTS)?;
-    for cut in cuts {
-        let copy = cut.clone()?;
-        copies.push(copy)?;
-    }
-    Ok(copies)
-}
-
-/// Handles to the cuts and a further one, without the first where the list is full.
-fn extended(
-    alloc: Global,
-    cuts: &[Arc<ProvedCut, Global>],
-    cut: Arc<ProvedCut, Global>,
-) -> Result<Vec<Arc<ProvedCut, Global>>, AllocError>
-    ensures { IfOk result (λ all. map arc_value all.items ≡ with_cut (map arc_value cuts.now) (arc_value cut)) }
-{
-    let from = if cuts.len() < MAX_CUTS { 0 } else { 1 };
-    let mut all = copied(alloc, &cuts[from..])?;
-    all.push(cut)?;
-    Ok(all)
 }

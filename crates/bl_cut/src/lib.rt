@@ -4,6 +4,7 @@
 #![tactic(auto)]
 
 mod cuts;
+mod list;
 mod proved;
 mod step;
 #[cfg(test)]

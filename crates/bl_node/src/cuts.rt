@@ -5,7 +5,7 @@ ghost use Rattle.bl_limits.specs.declared.TheConstants.{MAX_NEW_CUTS, CUT_NODES}
 ghost use Rattle.bl_terms.specs.Points.{InArea, IsWithinArea};
 ghost use Rattle.bl_terms.specs.Programs.{InBox, root};
 ghost use Rattle.bl_cut_terms.specs.NoGoods.{HasBetterResponse};
-ghost use Rattle.bl_cut.specs.Cuts.{with_cut};
+ghost use Rattle.bl_cut.specs.Cuts.{with_cut, cut_at};
 ghost use Rattle.bl_node.specs.NodeCuts.{BreaksAt, BreaksOne};
 ghost use Rattle.bl_node.specs.Works.{IsSoundJob, job_of};
 ghost use Rattle.bl_node.specs.Standing.{AreNodeCuts, IsAttempt};
@@ -18,13 +18,30 @@ use bl_tree::Task;
 use std::alloc::{AllocError, Global};
 use std::sync::Arc;
 
-/// Whether the point breaks the cut at a place, and the cut may be used in the box.
-fn breaks_at(model: &Bilevel, area: &Box2, cuts: &Cuts, place: u32, point: &[i64]) -> bool
-    requires { InBox model.now point.now }
+/// Whether a cut is of the model; `is_known` tells whether that is known already.
+fn is_of(model: &Bilevel, cut: &ProvedCut, is_known: bool) -> bool
+    requires { IsTrue is_known → cut.now.program ≡ model.now }
+    ensures { IsTrue result ↔ (cut.now.program ≡ model.now) }
+{
+    is_known || same(cut.model(), model)
+}
+
+/// Whether the point breaks the cut at a place, and the cut may be used in the box. `is_known` tells whether the cut is
+/// known to be of the model.
+fn breaks_at(
+    model: &Bilevel,
+    area: &Box2,
+    cuts: &Cuts,
+    is_known: bool,
+    place: u32,
+    point: &[i64],
+) -> bool
+    requires inside { InBox model.now point.now }
+    requires known { IsTrue is_known → place < length cuts.now → (cut_at cuts.now place).program ≡ model.now }
     ensures { IsTrue result ↔ BreaksAt model.now area.now cuts.now point.now place }
 {
     match cuts.at(place) {
-        Some(cut) => { same(cut.model(), model) && area.within(cut.area()) && cut.breaks(point) }
+        Some(cut) => { is_of(model, cut, is_known) && area.within(cut.area()) && cut.breaks(point) }
         None => false,
     }
 }
@@ -34,8 +51,9 @@ fn breaks_one(model: &Bilevel, area: &Box2, cuts: &Cuts, point: &[i64]) -> bool
     requires { InBox model.now point.now }
     ensures { IsTrue result ↔ BreaksOne model.now area.now cuts.now point.now }
 {
+    let are_known = cuts.are_of(model);
     for place in 0..cuts.count() {
-        if breaks_at(model, area, cuts, place, point) {
+        if breaks_at(model, area, cuts, are_known, place, point) {
             return true;
         }
     }

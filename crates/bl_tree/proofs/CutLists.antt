@@ -1,7 +1,7 @@
 -- Lists of cuts, place by place.
 use Rattle.std.proofs.Common.{◌≡◌, ◌≢◌, ℕ, ◌+◌, ◌<◌, ◌≤◌, sym, ap, ◌∙◌, append_assoc}
 use Rattle.std.proofs.Common.{subst, arith, inl, inr, List, [], ◌∷◌, ◌++◌, length}
-use Rattle.std.specs.Prelude.{All, take, ℤ, slice_index_or}
+use Rattle.std.specs.Prelude.{take, ℤ, slice_index_or}
 use Rattle.std.proofs.lemmas.Bool.{cases_lt}
 use Rattle.std.proofs.lemmas.List.{get_or_default, map_more}
 use Rattle.bl_terms.specs.Points.{Linear}
@@ -10,12 +10,6 @@ use Rattle.bl_cut_terms.specs.NoGoods.{NoGoodCut, cut_of}
 use Rattle.bl_cut.specs.Cuts.{no_cut, cut_at}
 use Rattle.bl_leaf_terms.specs.Leaves.{AreDistinctCuts}
 use Rattle.bl_tree.specs.Closing.{rows_of}
-
--- what holds at each place holds of each cut
-pub all_by_places : (P : NoGoodCut → Type 0) (cuts : List NoGoodCut) (n : ℕ) → length cuts ≤ n
-    → ((k : ℕ) → k < n → P (cut_at cuts k)) → All P cuts
-all_by_places P cuts n e each =
-    λ k d b. subst P (get_or_default cuts k no_cut d b) (each k (omega arith))
 
 -- cuts of which each differs from those before it
 pub distinct_by_places : (cuts : List NoGoodCut) (n : ℕ) → length cuts ≤ n

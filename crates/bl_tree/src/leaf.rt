@@ -283,21 +283,9 @@ fn are_cuts_of(model: &Bilevel, leaf: &Leaf) -> bool
     ensures { IsTrue result ↔ All (λ c. c.program ≡ model.now) (cuts_used leaf.now) }
 {
     match leaf {
-        Leaf::Bounded { cuts, .. } => are_of_model(model, cuts),
+        Leaf::Bounded { cuts, .. } => cuts.are_of(model),
         Leaf::NoAnswer(_) => true,
     }
-}
-
-/// Whether the cuts are of the model.
-fn are_of_model(model: &Bilevel, cuts: &Cuts) -> bool
-    ensures { IsTrue result ↔ All (λ c. c.program ≡ model.now) cuts.now }
-{
-    for place in 0..cuts.count() {
-        if !same(cut_at(cuts, place).model(), model) {
-            return false;
-        }
-    }
-    true
 }
 
 /// The first cited cut whose box doesn't contain the leaf's.

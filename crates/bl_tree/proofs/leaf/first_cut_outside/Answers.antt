@@ -2,7 +2,8 @@ use Rattle.std.proofs.Common.{◌≤◌, length, arith, rules}
 use Rattle.bl_terms.specs.Points.{IsWithinArea}
 use Rattle.bl_cut_terms.specs.NoGoods.{cut_of}
 use Rattle.bl_cut.specs.Cuts.{cut_at}
-use Rattle.bl_tree.proofs.CutLists.{all_by_places, one_more}
+use Rattle.bl_cut.proofs.CutLemmas.{all_by_places}
+use Rattle.bl_tree.proofs.CutLists.{one_more}
 use Rattle.bl_tree.proofs.leaf.first_cut_outside.Goals as goal
 
 pub loop-place-preserved : goal.loop-place-preserved

@@ -7,7 +7,8 @@ use Rattle.bl_terms.specs.Bounds.{Problem}
 use Rattle.bl_cut_terms.specs.NoGoods.{NoGoodCut, cut_of}
 use Rattle.bl_cut.specs.Cuts.{IsProvedCut, no_cut, cut_at}
 use Rattle.bl_cut.proofs.CutLemmas.{row_columns}
-use Rattle.bl_tree.proofs.CutLists.{all_by_places, row_is, cut_added, one_more}
+use Rattle.bl_cut.proofs.CutLemmas.{all_by_places}
+use Rattle.bl_tree.proofs.CutLists.{row_is, cut_added, one_more}
 use Rattle.bl_tree.proofs.problem.add_cuts.Goals as goal
 
 pub row-requires : goal.row-requires

@@ -1,5 +1,5 @@
 use Rattle.bl_cut.proofs.CutLemmas.{shared_more}
-use Rattle.bl_cut.proofs.cuts.copied.Goals as goal
+use Rattle.bl_cut.proofs.list.copied.Goals as goal
 
 pub loop-cut-preserved : goal.loop-cut-preserved
 loop-cut-preserved c =
